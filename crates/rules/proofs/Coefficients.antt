@@ -1,0 +1,60 @@
+-- No coefficient is above 1. Assumes nothing.
+use mathlib.Core.List.{List, [], _∷_}
+use Prim.Native.Nat.{ℕ, zero, suc, zero-le, _*_, _≤_, _<_, min}
+use native.Mathlib.Nat.{le-refl, sub-le}
+use native.Mathlib.Omega.{arith}
+use Rattle.rules.specs.Range.{sum}
+use Rattle.rules.specs.Units.{one}
+use Rattle.rules.specs.Month.{Header, Producer, Month, hours}
+use Rattle.rules.specs.Limits.{ProducerLimits}
+use Rattle.rules.specs.Coefficients.{share, penalty, lessPenalty, k1, k2, asked, met, k4, k5, inOrder}
+use Rattle.rules.proofs.Range.{sum-mono}
+use Rattle.rules.proofs.Units.{rounded-at-most}
+
+-- A share of a part is at most 1.
+pub share-at-most : (whole : ℕ) {part : ℕ} → part ≤ whole → share part whole ≤ one
+unfolding share
+share-at-most zero h = le-refl one
+share-at-most (suc rest) h = rounded-at-most one (suc rest) (omega arith)
+
+penalty-at-most : (T x : ℕ) → lessPenalty T x ≤ one
+unfolding lessPenalty
+penalty-at-most zero zero = le-refl one
+penalty-at-most zero (suc x) = zero-le
+penalty-at-most (suc T) x = share-at-most (10 * suc T) (sub-le (10 * suc T) x)
+
+pub met-le : (p : Producer) (S i : ℕ) → met p S i ≤ asked p S i
+unfolding met
+met-le p S i = omega arith
+
+module _ (h : Header) (p : Producer) where
+  pub k1-at-most : (T : ℕ) → k1 h p T ≤ one
+  unfolding k1
+  k1-at-most T = penalty-at-most T (penalty h p)
+
+  pub k2-at-most : k2 h p ≤ one
+  unfolding k2
+  k2-at-most = share-at-most (hours h) (sub-le (hours h) _)
+
+  pub k4-at-most : (S : ℕ) → k4 h p S ≤ one
+  unfolding k4
+  k4-at-most S = share-at-most _ (sum-mono (met p S) (asked p S) (hours h) (λ i l. met-le p S i))
+
+  pub k5-at-most : k5 h p ≤ one
+  unfolding k5
+  k5-at-most = share-at-most (hours h) (sub-le (hours h) _)
+
+-- None of a list of coefficients is above 1.
+pub data AtMost1 : List ℕ → Type 0 where
+  end : AtMost1 []
+  each : {k : ℕ} {ks : List ℕ} → k ≤ one → AtMost1 ks → AtMost1 (k ∷ ks)
+
+pub in-order-at-most : (h : Header) (p : Producer) (T S : ℕ) → ProducerLimits h p → AtMost1 (inOrder h p T S)
+unfolding inOrder
+in-order-at-most h p T S l =
+    each (k1-at-most h p T)
+    (each (k2-at-most h p)
+    (each (l .k3)
+    (each (k4-at-most h p S)
+    (each (k5-at-most h p)
+    (each (l .k6) (each (l .k7) (each (l .k8) (each (l .k9) (each (l .k10) end)))))))))

@@ -1,0 +1,15 @@
+pub mod Open
+pub mod CheckedMonths
+pub mod Slips
+pub mod Listing
+pub mod Range
+pub mod Units
+pub mod Bands
+pub mod Cut
+pub mod Coefficients
+pub mod Rows
+pub mod Consumers
+pub mod Fields
+pub mod Sheet
+pub mod Refusals
+pub mod Figures

@@ -1,0 +1,76 @@
+-- Laws of sums and tests over a range, each once. Assumes nothing.
+use mathlib.Core.Path.{_≡_, refl, ap, _∙_}
+use mathlib.Core.Bool.{Bool, true, false, _||_, true≢false}
+use mathlib.Core.Logic.{⊎-elim}
+use Prim.Native.Nat.{ℕ, zero, suc, zero-le, _+_, _*_, _≤_, _<_}
+use native.Mathlib.Nat.{le-refl, suc-mul, eq-or-lt-of-le, le-of-suc-le-suc}
+use native.Mathlib.Numerals.{add-one}
+use native.Mathlib.Omega.{arith}
+use Rattle.rules.specs.Range.{sum, any, when}
+
+-- Nowhere above, so is the sum; everywhere the same, so is the sum.
+pub sum-mono : (f g : ℕ → ℕ) (n : ℕ) → ((i : ℕ) → i < n → f i ≤ g i) → sum f n ≤ sum g n
+unfolding sum
+sum-mono f g zero h = zero-le
+sum-mono f g (suc n) h =
+    let rest : sum f n ≤ sum g n = sum-mono f g n (λ i l. h i (omega arith)) in
+    omega (arith, h n (omega arith))
+
+pub sum-same : (f g : ℕ → ℕ) (n : ℕ) → ((i : ℕ) → i < n → f i ≡ g i) → sum f n ≡ sum g n
+unfolding sum
+sum-same f g zero h = refl
+sum-same f g (suc n) h =
+    let rest : sum f n ≡ sum g n = sum-same f g n (λ i l. h i (omega arith)) in
+    omega (arith, h n (omega arith))
+
+-- Each at most b, so the sum is at most n × b.
+pub sum-le : (f : ℕ → ℕ) (b n : ℕ) → ((i : ℕ) → i < n → f i ≤ b) → sum f n ≤ n * b
+unfolding sum
+sum-le f b zero h = zero-le
+sum-le f b (suc n) h =
+    let rest : sum f n ≤ n * b = sum-le f b n (λ i l. h i (omega arith)) in
+    rw suc-mul (omega (arith, h n (omega arith)))
+
+-- A loop's start, its turn and its end.
+pub sum-none : (f : ℕ → ℕ) → sum f 0 ≡ 0
+unfolding sum
+sum-none f = refl
+
+pub sum-more : (f : ℕ → ℕ) (i : ℕ) → sum f (i + 1) ≡ sum f i + f i
+unfolding sum
+sum-more f i = rw add-one
+
+pub sum-end : (f : ℕ → ℕ) {i n : ℕ} → i ≤ n → n ≤ i → sum f i ≡ sum f n
+sum-end f {i} {n} p q = let e : i ≡ n = omega arith in ap (sum f) e
+
+pub when-mono : (b : Bool) {v w : ℕ} → v ≤ w → when b v ≤ when b w
+unfolding when
+when-mono true h = h
+when-mono false h = zero-le
+
+pub when-le : (b : Bool) (v : ℕ) → when b v ≤ v
+unfolding when
+when-le true v = le-refl v
+when-le false v = zero-le
+
+-- Neither of two tests holds, so neither the one nor the other.
+pub or-left : (a b : Bool) → (a || b) ≡ false → a ≡ false
+or-left true b e = e
+or-left false b e = refl
+
+pub or-right : (a b : Bool) → (a || b) ≡ false → b ≡ false
+or-right true b e = absurd (true≢false e)
+or-right false b e = e
+
+-- No place below n passes; and the other way round.
+pub any-clear : (f : ℕ → Bool) (n : ℕ) → any f n ≡ false → (i : ℕ) → i < n → f i ≡ false
+unfolding any
+any-clear f zero e i l = absurd (omega arith)
+any-clear f (suc n) e i l =
+    ⊎-elim (λ q. ap f q ∙ or-right (any f n) (f n) e) (λ q. any-clear f n (or-left (any f n) (f n) e) i q)
+    (eq-or-lt-of-le (le-of-suc-le-suc l))
+
+pub any-none : (f : ℕ → Bool) (n : ℕ) → ((i : ℕ) → i < n → f i ≡ false) → any f n ≡ false
+unfolding any
+any-none f zero h = refl
+any-none f (suc n) h = rw (any-none f n (λ i l. h i (omega arith)), h n (omega arith))

@@ -1,0 +1,17 @@
+-- The sheet's length, and where a producer's hours stand in it. Assumes nothing.
+use mathlib.Core.Path.{_≡_}
+use Prim.Native.Nat.{ℕ, _+_, _*_, _≤_, _<_}
+use native.Mathlib.Nat.{mul-le-mul-right}
+use native.Mathlib.Omega.{arith}
+use Rattle.rules.specs.Month.{Header, hours}
+use Rattle.rules.specs.Sheet.{hoursWidth, producerAt, hourAt, rowAt, consumerAt, sheetLength}
+
+-- Number 6's length, in document 01's words.
+pub sheet-length : (h : Header) → sheetLength h ≡ 14 + h .producers * (42 + 288 * h .days) + 10 * h .rows + 15 * h .consumers
+unfolding sheetLength consumerAt rowAt producerAt
+sheet-length h = omega arith
+
+-- The hours of a producer below P end within the sheet.
+pub hours-inside : (h : Header) (p : ℕ) → p < h .producers → hourAt h p 0 + hoursWidth h ≤ sheetLength h
+unfolding sheetLength consumerAt rowAt hourAt producerAt
+hours-inside h p l = omega (arith, mul-le-mul-right (42 + 288 * h .days) l)

@@ -1,0 +1,18 @@
+-- The example of document 01, Listing, as bytes: the sheet with no producer or row and one consumer of DO 100.0, peak 126.0,
+-- T'' = T''' = 0, z 10, price 100,000 tiyn; and its result.
+use Prim.Native.Nat.{ℕ}
+use mathlib.Core.List.{List, [], _∷_, _++_}
+
+-- Header: length 29, version 1, 30 days from a Monday, no holiday, P 0, R 0, C 1. Consumer: 1000, 1260, 0, 0, 10, 100,000.
+unfoldable pub exampleSheet : List ℕ
+exampleSheet =
+    (0 ∷ 0 ∷ 0 ∷ 29 ∷ 1 ∷ 30 ∷ 1 ∷ 0 ∷ 0 ∷ 0 ∷ 0 ∷ 0 ∷ 0 ∷ 1 ∷ [])
+    ++ (0 ∷ 0 ∷ 3 ∷ 232 ∷ 0 ∷ 0 ∷ 4 ∷ 236 ∷ 0 ∷ 0 ∷ 10 ∷ 0 ∷ 1 ∷ 134 ∷ 160 ∷ [])
+
+-- Length 46, version 1. Credit 0, p 210, n 15, actual volume 1240 (4 × 256 + 216), charge 12,400,000 (189 × 65,536 + 53 × 256 + 128).
+-- Total paid 0, total charged the same 12,400,000.
+unfoldable pub exampleResult : List ℕ
+exampleResult =
+    (0 ∷ 0 ∷ 0 ∷ 46 ∷ 1 ∷ [])
+    ++ (0 ∷ 0 ∷ 0 ∷ 0 ∷ 0 ∷ 0 ∷ 0 ∷ 210 ∷ 15 ∷ 0 ∷ 0 ∷ 0 ∷ 0 ∷ 0 ∷ 0 ∷ 4 ∷ 216 ∷ 0 ∷ 0 ∷ 0 ∷ 0 ∷ 0 ∷ 189 ∷ 53 ∷ 128 ∷ [])
+    ++ (0 ∷ 0 ∷ 0 ∷ 0 ∷ 0 ∷ 0 ∷ 0 ∷ 0 ∷ 0 ∷ 0 ∷ 0 ∷ 0 ∷ 0 ∷ 189 ∷ 53 ∷ 128 ∷ [])

@@ -1,0 +1,61 @@
+-- A month as its sheet states it (document 01, Units and the sheet): named figures, with producers, rows, consumers and hours counted from 0.
+-- Capacities, powers, volumes and peaks are in tenths of a megawatt, coefficients in millionths, prices in tiyn per megawatt and month.
+-- Where a figure stands among the sheet's bytes is said in Sheet and nowhere else.
+use Prim.Native.Nat.{ℕ, _*_}
+
+-- The header's month and counts: P producers, R rows, C consumers.
+pub record Header : Type 0 where
+  pub days : ℕ
+  -- weekday of day 1, Monday 1 to Sunday 7
+  pub weekday : ℕ
+  -- a bit for each day, the lowest for day 1
+  pub holidays : ℕ
+  pub producers : ℕ
+  pub rows : ℕ
+  pub consumers : ℕ
+
+-- A producer. Attested capacity, deductible capacity, greatest own needs (Order 152, point 2, 3), 10) and 9));
+-- hours without an upward bid, without a downward bid, without a plan; the given coefficients; and for each hour of the month
+-- working, possible and outside-use power (possible: point 2, 8)).
+pub record Producer : Type 0 where
+  pub attested : ℕ
+  pub deductible : ℕ
+  pub ownNeeds : ℕ
+  pub noUpwardBid : ℕ
+  pub noDownwardBid : ℕ
+  pub noPlan : ℕ
+  pub k3 : ℕ
+  pub k6 : ℕ
+  pub k7 : ℕ
+  pub k8 : ℕ
+  pub k9 : ℕ
+  pub k10 : ℕ
+  pub working : ℕ → ℕ
+  pub possible : ℕ → ℕ
+  pub outsideUse : ℕ → ℕ
+
+-- A contract row. Its consumer is 255 for the single buyer.
+pub record Row : Type 0 where
+  pub producer : ℕ
+  pub consumer : ℕ
+  pub volume : ℕ
+  pub price : ℕ
+
+-- A consumer: contract volume DO, peak, mining days of the supplier T'' and of the grid company T''', z in tenths, price (point 59).
+pub record Consumer : Type 0 where
+  pub contract : ℕ
+  pub peak : ℕ
+  pub supplierMining : ℕ
+  pub gridMining : ℕ
+  pub z : ℕ
+  pub price : ℕ
+
+pub record Month : Type 0 where
+  pub header : Header
+  pub producer : ℕ → Producer
+  pub row : ℕ → Row
+  pub consumer : ℕ → Consumer
+
+-- H, the hours of the month.
+abbrev pub hours : Header → ℕ
+hours h = 24 * h .days

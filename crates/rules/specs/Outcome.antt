@@ -1,0 +1,45 @@
+-- What is answered and what is left behind, for every sheet and every result buffer (document 01, Result; When a sheet is turned down;
+-- Units and the sheet, for the stretch of hours handed back).
+use Prim.Native.Nat.{ℕ}
+use mathlib.Core.Path.{_≡_}
+use mathlib.Core.Bool.{cond, _&&_}
+use mathlib.Core.List.{List, _++_}
+use lib.ListN.{length, take, drop}
+use lib.Dec.{eqb, ltb}
+use Rattle.rules.specs.Sheet.{headerOf, monthOf, hourAt, hoursWidth}
+use Rattle.rules.specs.Result.{resultLength, resultOf}
+use Rattle.rules.specs.Refusals.{formTests, firstOf, refusal}
+
+-- The answer: a refusal with its number, or the count of bytes written.
+pub data Outcome : Type 0 where
+  refused : ℕ → Outcome
+  written : ℕ → Outcome
+
+-- No number applies to the sheet, with a result buffer of so many bytes.
+abbrev pub Accepted : List ℕ → ℕ → Type 0
+Accepted s room = refusal s room ≡ 0
+
+unfoldable pub outcome : List ℕ → ℕ → Outcome
+outcome s room =
+    cond (eqb (refusal s room) 0) (written (resultLength (headerOf s))) (refused (refusal s room))
+
+-- The result buffer afterwards: the result from its beginning, and past it what was there; after a refusal all of what was there.
+unfoldable pub bufferAfter : List ℕ → List ℕ → List ℕ
+bufferAfter s out =
+    cond (eqb (refusal s (length out)) 0) (resultOf (monthOf s) ++ drop (resultLength (headerOf s)) out) out
+
+-- A stretch of a sheet: its place and its length.
+pub record Stretch : Type 0 where
+  pub place : ℕ
+  pub bytes : ℕ
+
+-- The stretch that holds producer p's hours; an empty one for a sheet turned down by 1 to 6, or a producer not below P.
+unfoldable pub hoursStretch : List ℕ → ℕ → Stretch
+hoursStretch s p =
+    cond (eqb (firstOf (formTests s)) 0 && ltb p (headerOf s .producers))
+    (record { place = hourAt (headerOf s) p 0; bytes = hoursWidth (headerOf s) })
+    (record { place = 0; bytes = 0 })
+
+-- The bytes of the sheet in a stretch.
+unfoldable pub within : Stretch → List ℕ → List ℕ
+within part s = take (part .bytes) (drop (part .place) s)

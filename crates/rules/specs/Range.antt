@@ -1,0 +1,17 @@
+-- Sums and tests over the places below a count: how the sections say "the sum over", "any" and "only where".
+use Prim.Native.Nat.{ℕ, zero, suc, _+_}
+use mathlib.Core.Bool.{Bool, false, cond, _||_}
+
+-- f 0 + f 1 + .. + f (n - 1).
+unfoldable pub sum : (ℕ → ℕ) → ℕ → ℕ
+sum f zero = 0
+sum f (suc n) = sum f n + f n
+
+-- Some place below n passes the test.
+unfoldable pub any : (ℕ → Bool) → ℕ → Bool
+any test zero = false
+any test (suc n) = any test n || test n
+
+-- v where the test passes, otherwise nothing.
+unfoldable pub when : Bool → ℕ → ℕ
+when test v = cond test v 0

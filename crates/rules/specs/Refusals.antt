@@ -1,0 +1,152 @@
+-- Refusals (document 01, When a sheet is turned down): numbers 1 to 12, each tried over the whole sheet before the next, and the first that applies.
+use Prim.Native.Nat.{ℕ, _/_, _^_}
+use mathlib.Core.Bool.{Bool, false, not, cond, _||_, _&&_}
+use mathlib.Core.List.{List, [], _∷_, _++_}
+use lib.ListN.{length}
+use lib.Dec.{leb, ltb, eqb}
+use Rattle.rules.specs.Range.{any}
+use Rattle.rules.specs.Units.{tenthsCeiling, tiynCeiling, one}
+use Rattle.rules.specs.Month.{Header, Producer, Row, Consumer, Month, hours}
+use Rattle.rules.specs.Sheet.{headerWidth, lengthField, version, headerOf, sheetLength, monthOf}
+use Rattle.rules.specs.Result.{resultLength}
+
+-- One of a list of tests holds.
+unfoldable pub oneOf : List Bool → Bool
+oneOf [] = false
+oneOf (test ∷ tests) = test || oneOf tests
+
+-- 4: days are not 28 to 31, or the weekday is not 1 to 7, or a holiday bit stands at or above the number of days.
+unfoldable pub badMonth : Header → Bool
+badMonth h =
+    oneOf
+    (ltb (h .days) 28
+    ∷ ltb 31 (h .days)
+    ∷ ltb (h .weekday) 1
+    ∷ ltb 7 (h .weekday)
+    ∷ ltb 0 (h .holidays / 2 ^ h .days)
+    ∷ [])
+
+-- 5: P is above 6, or R or C above 32.
+unfoldable pub tooMany : Header → Bool
+tooMany h = oneOf (ltb 6 (h .producers) ∷ ltb 32 (h .rows) ∷ ltb 32 (h .consumers) ∷ [])
+
+-- 8: a count of hours is above H, or a given coefficient above 1.
+unfoldable pub badShare : Header → Producer → Bool
+badShare h p =
+    oneOf
+    (ltb (hours h) (p .noUpwardBid)
+    ∷ ltb (hours h) (p .noDownwardBid)
+    ∷ ltb (hours h) (p .noPlan)
+    ∷ ltb one (p .k3)
+    ∷ ltb one (p .k6)
+    ∷ ltb one (p .k7)
+    ∷ ltb one (p .k8)
+    ∷ ltb one (p .k9)
+    ∷ ltb one (p .k10)
+    ∷ [])
+
+-- 9: a capacity figure is above the ceiling of tenths, in a producer, an hour, a row or a consumer.
+unfoldable pub tooHigh : ℕ → Bool
+tooHigh tenths = ltb tenthsCeiling tenths
+
+unfoldable pub highHour : Producer → ℕ → Bool
+highHour p hour =
+    oneOf (tooHigh (p .working hour) ∷ tooHigh (p .possible hour) ∷ tooHigh (p .outsideUse hour) ∷ [])
+
+unfoldable pub highProducer : Header → Producer → Bool
+highProducer h p =
+    oneOf
+    (tooHigh (p .attested)
+    ∷ tooHigh (p .deductible)
+    ∷ tooHigh (p .ownNeeds)
+    ∷ any (highHour p) (hours h)
+    ∷ [])
+
+unfoldable pub highRow : Row → Bool
+highRow r = tooHigh (r .volume)
+
+unfoldable pub highConsumer : Consumer → Bool
+highConsumer c = oneOf (tooHigh (c .contract) ∷ tooHigh (c .peak) ∷ [])
+
+-- 10: a row's producer is not below P, or its consumer is neither 255 nor below C.
+unfoldable pub badReference : Header → Row → Bool
+badReference h r =
+    oneOf
+    (leb (h .producers) (r .producer)
+    ∷ (not (eqb (r .consumer) 255) && leb (h .consumers) (r .consumer))
+    ∷ [])
+
+-- 11: a price is above the ceiling of tiyn.
+unfoldable pub tooDear : ℕ → Bool
+tooDear price = ltb tiynCeiling price
+
+-- 12: T'' or T''' is above days, or z is outside 10 to 100.
+unfoldable pub badFactor : Header → Consumer → Bool
+badFactor h c =
+    oneOf
+    (ltb (h .days) (c .supplierMining)
+    ∷ ltb (h .days) (c .gridMining)
+    ∷ ltb (c .z) 10
+    ∷ ltb 100 (c .z)
+    ∷ [])
+
+-- Some producer, row, consumer of the month passes a test.
+abbrev pub someProducer : Month → (Producer → Bool) → Bool
+someProducer m test = any (λ p. test (m .producer p)) (m .header .producers)
+
+abbrev pub someRow : Month → (Row → Bool) → Bool
+someRow m test = any (λ j. test (m .row j)) (m .header .rows)
+
+abbrev pub someConsumer : Month → (Consumer → Bool) → Bool
+someConsumer m test = any (λ c. test (m .consumer c)) (m .header .consumers)
+
+-- A number, and whether it applies.
+pub record Test : Type 0 where
+  pub number : ℕ
+  pub applies : Bool
+
+abbrev pub test : ℕ → Bool → Test
+test number applies = record { number = number; applies = applies }
+
+-- 1 to 6: fewer than 14 bytes; the length field is not the number of bytes; the version is not 1; the month; the counts;
+-- the length is not the one that month and counts ask for.
+unfoldable pub formTests : List ℕ → List Test
+formTests s =
+    test 1 (ltb (length s) headerWidth)
+    ∷ test 2 (not (eqb (lengthField s) (length s)))
+    ∷ test 3 (not (eqb (version s) 1))
+    ∷ test 4 (badMonth (headerOf s))
+    ∷ test 5 (tooMany (headerOf s))
+    ∷ test 6 (not (eqb (lengthField s) (sheetLength (headerOf s))))
+    ∷ []
+
+-- 7: the result buffer has less room than the result needs.
+unfoldable pub roomTests : Header → ℕ → List Test
+roomTests h room = test 7 (ltb room (resultLength h)) ∷ []
+
+-- 8 to 12: the figures.
+unfoldable pub figureTests : Month → List Test
+figureTests m =
+    test 8 (someProducer m (badShare (m .header)))
+    ∷ test 9 (oneOf (someProducer m (highProducer (m .header)) ∷ someRow m highRow ∷ someConsumer m highConsumer ∷ []))
+    ∷ test 10 (someRow m (badReference (m .header)))
+    ∷ test 11 (oneOf (someRow m (λ r. tooDear (r .price)) ∷ someConsumer m (λ c. tooDear (c .price)) ∷ []))
+    ∷ test 12 (someConsumer m (badFactor (m .header)))
+    ∷ []
+
+-- All of them in their order, for a result buffer of so many bytes.
+unfoldable pub tests : List ℕ → ℕ → List Test
+tests s room = formTests s ++ roomTests (headerOf s) room ++ figureTests (monthOf s)
+
+-- Whether the test with a number applies.
+unfoldable pub applies : ℕ → List Test → Bool
+applies n [] = false
+applies n (t ∷ ts) = cond (eqb (t .number) n) (t .applies) (applies n ts)
+
+-- The number of the first test that applies, 0 where none does.
+unfoldable pub firstOf : List Test → ℕ
+firstOf [] = 0
+firstOf (t ∷ ts) = cond (t .applies) (t .number) (firstOf ts)
+
+unfoldable pub refusal : List ℕ → ℕ → ℕ
+refusal s room = firstOf (tests s room)

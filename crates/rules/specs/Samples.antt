@@ -1,0 +1,94 @@
+-- Months written out, to be computed: each builder takes its figures in the sheet's order.
+use Prim.Native.Nat.{ℕ, _%_}
+use mathlib.Core.Bool.{true, false, cond}
+use mathlib.Core.List.{List, [], _∷_}
+use lib.ListN.{length, getD}
+use lib.Dec.{eqb, ltb}
+use Rattle.rules.specs.Units.{one}
+use Rattle.rules.specs.Month.{Producer, Row, Consumer, Month}
+use Rattle.rules.specs.Cut.{supportVolume, summedCapacity}
+use Rattle.rules.specs.Coefficients as Coefficients
+
+-- Attested, deductible, own needs; hours without an upward bid, a downward bid, a plan; k3 and k6 to k10; working, possible, outside use.
+abbrev pub producer : ℕ → ℕ → ℕ → ℕ → ℕ → ℕ → List ℕ → (ℕ → ℕ) → (ℕ → ℕ) → (ℕ → ℕ) → Producer
+producer attested deductible ownNeeds up down plan given working possible outside =
+    record {
+      attested = attested;
+      deductible = deductible;
+      ownNeeds = ownNeeds;
+      noUpwardBid = up;
+      noDownwardBid = down;
+      noPlan = plan;
+      k3 = getD given 0 one;
+      k6 = getD given 1 one;
+      k7 = getD given 2 one;
+      k8 = getD given 3 one;
+      k9 = getD given 4 one;
+      k10 = getD given 5 one;
+      working = working;
+      possible = possible;
+      outsideUse = outside;
+    }
+
+-- Producer, consumer, volume, price.
+abbrev pub row : ℕ → ℕ → ℕ → ℕ → Row
+row p c volume price = record { producer = p; consumer = c; volume = volume; price = price }
+
+-- Contract volume, peak, T'', T''', z, price.
+abbrev pub consumer : ℕ → ℕ → ℕ → ℕ → ℕ → ℕ → Consumer
+consumer contract peak t2 t3 z price =
+    record { contract = contract; peak = peak; supplierMining = t2; gridMining = t3; z = z; price = price }
+
+-- Days, weekday of day 1, holidays; the producers, rows and consumers.
+unfoldable pub month : ℕ → ℕ → ℕ → List Producer → List Row → List Consumer → Month
+month days weekday holidays ps rs cs =
+    record {
+      header =
+          record {
+            days = days;
+            weekday = weekday;
+            holidays = holidays;
+            producers = length ps;
+            rows = length rs;
+            consumers = length cs;
+          };
+      producer = λ p. getD ps p (producer 0 0 0 0 0 0 [] (λ i. 0) (λ i. 0) (λ i. 0));
+      row = λ j. getD rs j (row 0 0 0 0);
+      consumer = λ c. getD cs c (consumer 0 0 0 0 0 0);
+    }
+
+-- The same figure in every hour; one figure in an hour of each day and another in the rest; one figure in the first hours of the month.
+abbrev pub every : ℕ → ℕ → ℕ
+every v i = v
+
+abbrev pub atHour : ℕ → ℕ → (ℕ → ℕ) → ℕ → ℕ
+atHour hour v rest i = cond (eqb (i % 24) hour) v (rest i)
+
+abbrev pub firstHours : ℕ → ℕ → (ℕ → ℕ) → ℕ → ℕ
+firstHours n v rest i = cond (ltb i n) v (rest i)
+
+-- The coefficients of a month's first producer.
+abbrev pub k1 : Month → ℕ
+k1 m = Coefficients.k1 (m .header) (m .producer 0) (supportVolume m 0)
+
+abbrev pub k2 : Month → ℕ
+k2 m = Coefficients.k2 (m .header) (m .producer 0)
+
+abbrev pub k4 : Month → ℕ
+k4 m = Coefficients.k4 (m .header) (m .producer 0) (summedCapacity m 0)
+
+abbrev pub k5 : Month → ℕ
+k5 m = Coefficients.k5 (m .header) (m .producer 0)
+
+-- A figure of the definitions, and what it should be.
+pub record Figure : Type 0 where
+  pub is : ℕ
+  pub should : ℕ
+
+abbrev pub figure : ℕ → ℕ → Figure
+figure a b = record { is = a; should = b }
+
+-- The figures of a list that are not what they should be.
+unfoldable pub wrong : List Figure → List Figure
+wrong [] = []
+wrong (f ∷ fs) = cond (eqb (f .is) (f .should)) (wrong fs) (f ∷ wrong fs)

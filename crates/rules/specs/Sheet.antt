@@ -1,0 +1,103 @@
+-- The sheet (document 01, Units and the sheet): where each figure of a month stands. No other definition knows a place in the sheet.
+use Prim.Native.Nat.{ℕ, _+_, _*_}
+use mathlib.Core.List.{List}
+use Rattle.rules.specs.Month.{Header, Producer, Row, Consumer, Month}
+use Rattle.rules.specs.Fields.{be}
+
+-- The header, 14 bytes: length of the whole sheet, version, then the month and the counts.
+abbrev pub headerWidth : ℕ
+headerWidth = 14
+
+unfoldable pub lengthField : List ℕ → ℕ
+lengthField s = be 4 s 0
+
+unfoldable pub version : List ℕ → ℕ
+version s = be 1 s 4
+
+abbrev pub headerOf : List ℕ → Header
+headerOf s =
+    record {
+      days = be 1 s 5;
+      weekday = be 1 s 6;
+      holidays = be 4 s 7;
+      producers = be 1 s 11;
+      rows = be 1 s 12;
+      consumers = be 1 s 13;
+    }
+
+-- The width of all hours of one producer (12 bytes each), of a producer with its hours, of a row, of a consumer.
+abbrev pub hoursWidth : Header → ℕ
+hoursWidth h = 288 * h .days
+
+abbrev pub producerWidth : Header → ℕ
+producerWidth h = 42 + hoursWidth h
+
+abbrev pub rowWidth : ℕ
+rowWidth = 10
+
+abbrev pub consumerWidth : ℕ
+consumerWidth = 15
+
+-- Where producer p begins, its hour, row j and consumer c: producers after the header, then rows, then consumers.
+unfoldable pub producerAt : Header → ℕ → ℕ
+producerAt h p = headerWidth + p * producerWidth h
+
+unfoldable pub hourAt : Header → ℕ → ℕ → ℕ
+hourAt h p hour = producerAt h p + 42 + 12 * hour
+
+unfoldable pub rowAt : Header → ℕ → ℕ
+rowAt h j = producerAt h (h .producers) + rowWidth * j
+
+unfoldable pub consumerAt : Header → ℕ → ℕ
+consumerAt h c = rowAt h (h .rows) + consumerWidth * c
+
+-- The length that the header's month and counts ask for: the place past the last consumer.
+-- (sheet-length, in proofs/Sheet: 14 + P × (42 + 288 × days) + 10 × R + 15 × C.)
+unfoldable pub sheetLength : Header → ℕ
+sheetLength h = consumerAt h (h .consumers)
+
+-- The producer, the row and the consumer whose bytes begin at a place; a producer's hours stand apart, 12 bytes an hour.
+abbrev pub producerOf : List ℕ → ℕ → (ℕ → ℕ) → Producer
+producerOf s at hour =
+    record {
+      attested = be 4 s at;
+      deductible = be 4 s (at + 4);
+      ownNeeds = be 4 s (at + 8);
+      noUpwardBid = be 2 s (at + 12);
+      noDownwardBid = be 2 s (at + 14);
+      noPlan = be 2 s (at + 16);
+      k3 = be 4 s (at + 18);
+      k6 = be 4 s (at + 22);
+      k7 = be 4 s (at + 26);
+      k8 = be 4 s (at + 30);
+      k9 = be 4 s (at + 34);
+      k10 = be 4 s (at + 38);
+      working = λ i. be 4 s (hour i);
+      possible = λ i. be 4 s (hour i + 4);
+      outsideUse = λ i. be 4 s (hour i + 8);
+    }
+
+abbrev pub rowOf : List ℕ → ℕ → Row
+rowOf s at =
+    record { producer = be 1 s at; consumer = be 1 s (at + 1); volume = be 4 s (at + 2); price = be 4 s (at + 6) }
+
+abbrev pub consumerOf : List ℕ → ℕ → Consumer
+consumerOf s at =
+    record {
+      contract = be 4 s at;
+      peak = be 4 s (at + 4);
+      supplierMining = be 1 s (at + 8);
+      gridMining = be 1 s (at + 9);
+      z = be 1 s (at + 10);
+      price = be 4 s (at + 11);
+    }
+
+-- The month that a sheet states.
+abbrev pub monthOf : List ℕ → Month
+monthOf s =
+    record {
+      header = headerOf s;
+      producer = λ p. producerOf s (producerAt (headerOf s) p) (hourAt (headerOf s) p);
+      row = λ j. rowOf s (rowAt (headerOf s) j);
+      consumer = λ c. consumerOf s (consumerAt (headerOf s) c);
+    }
