@@ -1,11 +1,11 @@
 -- No coefficient is above 1. Assumes nothing.
+use mathlib.Core.Path.{refl}
 use mathlib.Core.List.{List, [], _∷_}
-use Prim.Native.Nat.{ℕ, zero, suc, zero-le, _*_, _≤_, _<_, min}
+use Prim.Native.Nat.{ℕ, zero, suc, zero-le, _*_, _≤_}
 use native.Mathlib.Nat.{le-refl, sub-le}
 use native.Mathlib.Omega.{arith}
-use Rattle.rules.specs.Range.{sum}
 use Rattle.rules.specs.Units.{one}
-use Rattle.rules.specs.Month.{Header, Producer, Month, hours}
+use Rattle.rules.specs.Month.{Header, Producer, hours}
 use Rattle.rules.specs.Limits.{ProducerLimits}
 use Rattle.rules.specs.Coefficients.{share, penalty, lessPenalty, k1, k2, asked, met, k4, k5, inOrder}
 use Rattle.rules.proofs.Range.{sum-mono}
@@ -38,7 +38,7 @@ module _ (h : Header) (p : Producer) where
 
   pub k4-at-most : (S : ℕ) → k4 h p S ≤ one
   unfolding k4
-  k4-at-most S = share-at-most _ (sum-mono (met p S) (asked p S) (hours h) (λ i l. met-le p S i))
+  k4-at-most S = share-at-most _ (sum-mono (met p S) (asked p S) refl (λ i l. met-le p S i))
 
   pub k5-at-most : k5 h p ≤ one
   unfolding k5

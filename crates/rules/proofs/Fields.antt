@@ -3,7 +3,7 @@ use mathlib.Core.Path.{_≡_, refl, sym, ap, _∙_}
 use mathlib.Core.List.{List, [], _∷_, _++_, append-assoc}
 use mathlib.Core.Logic.{⊎-elim}
 use Prim.Native.Nat.{ℕ, zero, suc, _+_, _*_, _/_, _%_, _^_, _<_}
-use native.Mathlib.Nat.{add-assoc, zero-add, pow-suc, div-lt-iff-lt-mul, eq-or-lt-of-le, le-of-suc-le-suc}
+use native.Mathlib.Nat.{add-assoc, add-zero, zero-add, pow-suc, div-lt-iff-lt-mul, eq-or-lt-of-le, le-of-suc-le-suc}
 use native.Mathlib.Numerals.{add-one}
 use native.Mathlib.Omega.{arith}
 use lib.Dec.{lit<}
@@ -78,14 +78,17 @@ abbrev pub Read : List ℕ → ℕ → ℕ → List Field → Type 0
 Read s at k [] = Unit {0}
 Read s at k (f ∷ fs) = (be (f .width) s (at + k) ≡ f .figure) × Read s at (k + f .width) fs
 
-pub read-laid : (s : List ℕ) (at k : ℕ) (fs : List Field) → Fit fs → Holds s (at + k) (laid fs) → Read s at k fs
+read-from : (s : List ℕ) (at k : ℕ) (fs : List Field) → Fit fs → Holds s (at + k) (laid fs) → Read s at k fs
 unfolding laid
-read-laid s at k [] fit h = tt
-read-laid s at k (f ∷ fs) fit h = (
+read-from s at k [] fit h = tt
+read-from s at k (f ∷ fs) fit h = (
   be-held (f .width) s (at + k) (f .figure) (fit .0) (holds-left s (at + k) _ _ h),
-  read-laid s at (k + f .width) fs (fit .1)
+  read-from s at (k + f .width) fs (fit .1)
       (holds-right s (at + k) (bytesOf (f .width) (f .figure)) (laid fs) (rw (length-bytesOf, add-assoc)) h),
 )
+
+pub read-laid : (s : List ℕ) (at : ℕ) (fs : List Field) → Fit fs → Holds s at (laid fs) → Read s at 0 fs
+read-laid s at fs fit h = read-from s at 0 fs fit (rw add-zero h)
 
 -- Records of one width, one after the other: record j stands at width × j.
 module _ (f : ℕ → List ℕ) (width : ℕ) (each : (i : ℕ) → length (f i) ≡ width) where

@@ -1,7 +1,3 @@
-pub mod Open
-pub mod CheckedMonths
-pub mod Slips
-pub mod Listing
 pub mod Range
 pub mod Units
 pub mod Bands

@@ -1,27 +1,26 @@
 -- Laws of sums and tests over a range, each once. Assumes nothing.
-use mathlib.Core.Path.{_≡_, refl, ap, _∙_}
+use mathlib.Core.Path.{_≡_, refl, sym, ap, _∙_}
 use mathlib.Core.Bool.{Bool, true, false, _||_, true≢false}
 use mathlib.Core.Logic.{⊎-elim}
 use Prim.Native.Nat.{ℕ, zero, suc, zero-le, _+_, _*_, _≤_, _<_}
-use native.Mathlib.Nat.{le-refl, suc-mul, eq-or-lt-of-le, le-of-suc-le-suc}
+use native.Mathlib.Nat.{le-refl, le-antisymm, le-of-eq, suc-mul, eq-or-lt-of-le, le-of-suc-le-suc}
 use native.Mathlib.Numerals.{add-one}
 use native.Mathlib.Omega.{arith}
 use Rattle.rules.specs.Range.{sum, any, when}
 
--- Nowhere above, so is the sum; everywhere the same, so is the sum.
-pub sum-mono : (f g : ℕ → ℕ) (n : ℕ) → ((i : ℕ) → i < n → f i ≤ g i) → sum f n ≤ sum g n
+-- Nowhere above, so is the sum; everywhere the same, so is the sum. The two counts may be two names of one number.
+below : (f g : ℕ → ℕ) (n : ℕ) → ((i : ℕ) → i < n → f i ≤ g i) → sum f n ≤ sum g n
 unfolding sum
-sum-mono f g zero h = zero-le
-sum-mono f g (suc n) h =
-    let rest : sum f n ≤ sum g n = sum-mono f g n (λ i l. h i (omega arith)) in
+below f g zero h = zero-le
+below f g (suc n) h =
+    let rest : sum f n ≤ sum g n = below f g n (λ i l. h i (omega arith)) in
     omega (arith, h n (omega arith))
 
-pub sum-same : (f g : ℕ → ℕ) (n : ℕ) → ((i : ℕ) → i < n → f i ≡ g i) → sum f n ≡ sum g n
-unfolding sum
-sum-same f g zero h = refl
-sum-same f g (suc n) h =
-    let rest : sum f n ≡ sum g n = sum-same f g n (λ i l. h i (omega arith)) in
-    omega (arith, h n (omega arith))
+pub sum-mono : (f g : ℕ → ℕ) {n n′ : ℕ} → n ≡ n′ → ((i : ℕ) → i < n′ → f i ≤ g i) → sum f n ≤ sum g n′
+sum-mono f g {n} {n′} e h = rw e (below f g n′ h)
+
+pub sum-same : (f g : ℕ → ℕ) {n n′ : ℕ} → n ≡ n′ → ((i : ℕ) → i < n′ → f i ≡ g i) → sum f n ≡ sum g n′
+sum-same f g e h = le-antisymm (sum-mono f g e (λ i l. le-of-eq (h i l))) (sum-mono g f (sym e) (λ i l. le-of-eq (sym (h i (rw (sym e) l)))))
 
 -- Each at most b, so the sum is at most n × b.
 pub sum-le : (f : ℕ → ℕ) (b n : ℕ) → ((i : ℕ) → i < n → f i ≤ b) → sum f n ≤ n * b

@@ -1,19 +1,18 @@
 -- Acceptance gives every limit by name, and the limits give acceptance. Assumes nothing.
 use mathlib.Core.Path.{_≡_, refl, sym, _∙_}
-use mathlib.Core.Bool.{Bool, true, false, not, cond, _||_, _&&_, true≢false}
+use mathlib.Core.Bool.{Bool, true, false, not, cond, _&&_, true≢false}
 use mathlib.Core.List.{List, [], _∷_, _++_}
-use Prim.Native.Nat.{ℕ, zero, suc, _/_, _^_, _≤_, _<_}
+use Prim.Native.Nat.{ℕ, _/_, _^_, _≤_, _<_}
 use native.Mathlib.Nat.{one-mul, div-lt-iff-lt-mul, div-eq-of-lt}
 use native.Mathlib.Omega.{arith}
 use borrow.Author.Tests.{ltb-false, leb-false, eqb-true, eqb-false, ne-eqb, eq-eqb, le-ltb, lt-leb}
-use lib.ListN.{length}
 use lib.Pow.{pow-pos}
 use lib.Dec.{T, leb, ltb, eqb, leb→le}
 use lib.Ieee.Fits.{and-l, and-r}
 use Rattle.rules.specs.Range.{any}
-use Rattle.rules.specs.Units.{tenthsCeiling, tiynCeiling, one}
+use Rattle.rules.specs.Units.{tenthsCeiling, tiynCeiling}
 use Rattle.rules.specs.Month.{Header, Producer, Row, Consumer, Month, hours}
-use Rattle.rules.specs.Sheet.{headerWidth, lengthField, version, headerOf, sheetLength, monthOf}
+use Rattle.rules.specs.Sheet.{headerOf, monthOf}
 use Rattle.rules.specs.Result.{resultLength}
 use Rattle.rules.specs.Refusals.{oneOf, badMonth, tooMany, badShare, tooHigh, highHour, highProducer, highRow, highConsumer, badReference, tooDear, badFactor, Test, formTests, roomTests, figureTests, tests, applies, firstOf, refusal}
 use Rattle.rules.specs.Limits.{HeaderLimits, ProducerLimits, RowLimits, ConsumerLimits, MonthLimits, FormLimits, SheetLimits}

@@ -5,7 +5,9 @@ use Rattle.rules.specs.Month.{Month}
 use Rattle.rules.specs.Cut.{afterCut}
 use Rattle.rules.specs.Rows.{actual}
 use Rattle.rules.specs.Consumers.{volume}
-use Rattle.rules.specs.Samples.{producer, row, consumer, month, every, k1, Figure, figure}
+use Rattle.rules.specs.Samples.{producer, row, consumer, month, every, k1, Figure, figure, wrong}
+use Rattle.rules.specs.Open.{settlement}
+use mathlib.Core.Path.{_≡_, refl}
 
 -- One consumer with DO and a peak: T'' = T''' = 0, z 10, no credit, in a month of 30 days.
 unfoldable pub consumerMonth : ℕ → ℕ → Month
@@ -40,3 +42,8 @@ checked =
     ∷ figure (k1 (producerMonth 1100 120)) 974000
     ∷ figure (k1 (producerMonth 1100 121)) 968500
     ∷ []
+
+-- All at once, by computation: no figure is wrong.
+pub checked-months : wrong checked ≡ []
+unfolding settlement consumerMonth producerMonth checked
+checked-months = refl

@@ -1,6 +1,6 @@
 -- Control hours (document 01, Control hours; Order 152, point 2, 4)): 17:00 to 23:00, Monday to Friday, holidays excepted.
 -- Days are counted from 0 here, day 1 of the month being 0; hours run through the month.
-use Prim.Native.Nat.{ℕ, zero, suc, _+_, _*_, _/_, _%_, _^_}
+use Prim.Native.Nat.{ℕ, zero, suc, _+_, _/_, _%_, _^_}
 use mathlib.Core.Bool.{Bool, not, _&&_}
 use lib.Dec.{leb, eqb}
 use Rattle.rules.specs.Range.{sum, when}

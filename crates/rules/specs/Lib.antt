@@ -15,6 +15,9 @@ pub mod Refusals
 pub mod Limits
 pub mod Outcome
 pub mod Samples
+pub mod Open
 pub mod CheckedMonths
 pub mod Slips
 pub mod Listing
+pub mod RefusalCases
+pub mod Places

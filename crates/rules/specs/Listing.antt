@@ -2,6 +2,10 @@
 -- T'' = T''' = 0, z 10, price 100,000 tiyn; and its result.
 use Prim.Native.Nat.{ℕ}
 use mathlib.Core.List.{List, [], _∷_, _++_}
+use lib.ListN.{replicate}
+use Rattle.rules.specs.Outcome.{refused, written, outcome, bufferAfter}
+use Rattle.rules.specs.Open.{settlement, layout}
+use mathlib.Core.Path.{_≡_, refl}
 
 -- Header: length 29, version 1, 30 days from a Monday, no holiday, P 0, R 0, C 1. Consumer: 1000, 1260, 0, 0, 10, 100,000.
 unfoldable pub exampleSheet : List ℕ
@@ -16,3 +20,22 @@ exampleResult =
     (0 ∷ 0 ∷ 0 ∷ 46 ∷ 1 ∷ [])
     ++ (0 ∷ 0 ∷ 0 ∷ 0 ∷ 0 ∷ 0 ∷ 0 ∷ 210 ∷ 15 ∷ 0 ∷ 0 ∷ 0 ∷ 0 ∷ 0 ∷ 0 ∷ 4 ∷ 216 ∷ 0 ∷ 0 ∷ 0 ∷ 0 ∷ 0 ∷ 189 ∷ 53 ∷ 128 ∷ [])
     ++ (0 ∷ 0 ∷ 0 ∷ 0 ∷ 0 ∷ 0 ∷ 0 ∷ 0 ∷ 0 ∷ 0 ∷ 0 ∷ 0 ∷ 0 ∷ 189 ∷ 53 ∷ 128 ∷ [])
+
+-- 46 bytes are written into a buffer of 46.
+pub example-outcome : outcome exampleSheet 46 ≡ written 46
+unfolding settlement layout exampleSheet
+example-outcome = refl
+
+-- A buffer of 51 bytes keeps the five past the result.
+pub example-result : bufferAfter exampleSheet (replicate 51 7) ≡ exampleResult ++ replicate 5 7
+unfolding settlement layout exampleSheet exampleResult
+example-result = refl
+
+-- A buffer of 45 bytes is too short, and keeps all that it held.
+pub example-short : outcome exampleSheet 45 ≡ refused 7
+unfolding settlement layout exampleSheet
+example-short = refl
+
+pub example-kept : bufferAfter exampleSheet (replicate 45 7) ≡ replicate 45 7
+unfolding settlement layout exampleSheet
+example-kept = refl

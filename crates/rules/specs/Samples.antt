@@ -1,6 +1,6 @@
 -- Months written out, to be computed: each builder takes its figures in the sheet's order.
 use Prim.Native.Nat.{ℕ, _%_}
-use mathlib.Core.Bool.{true, false, cond}
+use mathlib.Core.Bool.{cond}
 use mathlib.Core.List.{List, [], _∷_}
 use lib.ListN.{length, getD}
 use lib.Dec.{eqb, ltb}

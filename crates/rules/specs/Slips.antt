@@ -9,7 +9,9 @@ use Rattle.rules.specs.Cut.{afterCut}
 use Rattle.rules.specs.Rows.{actual, payment}
 use Rattle.rules.specs.Consumers.{credit, countedPeak, percent, band, volume, charge}
 use Rattle.rules.specs.Totals.{totalPaid, totalCharged}
-use Rattle.rules.specs.Samples.{producer, row, consumer, month, every, atHour, firstHours, k1, k2, k4, k5, Figure, figure}
+use Rattle.rules.specs.Samples.{producer, row, consumer, month, every, atHour, firstHours, k1, k2, k4, k5, Figure, figure, wrong}
+use Rattle.rules.specs.Open.{settlement}
+use mathlib.Core.Path.{_≡_, refl}
 
 -- Control hours ------------------------------------------------------------------------------------------------------------------------
 
@@ -306,3 +308,8 @@ creditFigures =
 
 unfoldable pub slips : List Figure
 slips = controlHourFigures ++ k1Figures ++ hourFigures ++ rowFigures ++ consumerFigures ++ creditFigures
+
+-- All at once, by computation: no figure is wrong.
+pub no-slip : wrong slips ≡ []
+unfolding settlement useMonth controlHourFigures k1Month noSupportMonth k1Figures hoursMonth powerMonth hourFigures cutMonth rowMonth rowFigures peakMonth consumerFigures creditMonth creditFigures slips
+no-slip = refl

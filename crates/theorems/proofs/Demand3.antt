@@ -1,0 +1,88 @@
+-- Demand 3 over sheets and results, byte for byte. Assumes nothing.
+use mathlib.Core.Path.{_≡_, sym, ap, _∙_}
+use mathlib.Core.List.{List}
+use Prim.Native.Nat.{ℕ, _+_, _≤_, _<_}
+use native.Mathlib.Omega.{arith}
+use lib.ListN.{length, take, drop, getD}
+use lib.Seq.{getD-take}
+use borrow.Author.Tests.{eq-eqb}
+use Rattle.rules.specs.Month.{Header, Month}
+use Rattle.rules.specs.Limits.{MonthLimits}
+use Rattle.rules.specs.Fields.{be}
+use Rattle.rules.specs.Sheet.{headerWidth, headerOf, monthOf}
+use Rattle.rules.specs.Result.{readRow, readConsumer, readTotals, rowFigures, consumerFigures, totalFigures, resultLength, resultOf}
+use Rattle.rules.specs.Outcome.{Accepted, bufferAfter}
+use Rattle.rules.proofs.Fields.{be-same, Holds, holds-front}
+use Rattle.rules.proofs.Refusals.{limits}
+use Rattle.rules.proofs.Cut.{cut-le-volume}
+use Rattle.rules.proofs.Rows.{actual-le-cut}
+use Rattle.theorems.specs.Demand3.{Worse, WorseSheet, NoBetter, OnlyCut}
+use Rattle.theorems.proofs.ReadBack.{row-read, consumer-read, totals-read}
+use Rattle.theorems.proofs.Months as Months
+
+-- A field within the first n bytes is the same where those are.
+front-same : (n w at : ℕ) (s t : List ℕ) → take n s ≡ take n t → at + w ≤ n → be w s at ≡ be w t at
+front-same n w at s t e l = be-same w s t at at (λ i q. byte i (omega arith))
+  where
+    byte : (i : ℕ) → at + i < n → getD s (at + i) 0 ≡ getD t (at + i) 0
+    byte i q = sym (getD-take n s (at + i) 0 q) ∙ ap (λ (x : List ℕ). getD x (at + i) 0) e ∙ getD-take n t (at + i) 0 q
+
+pub same-header : (s s′ : List ℕ) → take headerWidth s′ ≡ take headerWidth s → headerOf s′ ≡ headerOf s
+same-header s s′ e =
+    rw (
+      front-same 14 1 5 s′ s e (omega arith),
+      front-same 14 1 6 s′ s e (omega arith),
+      front-same 14 4 7 s′ s e (omega arith),
+      front-same 14 1 11 s′ s e (omega arith),
+      front-same 14 1 12 s′ s e (omega arith),
+      front-same 14 1 13 s′ s e (omega arith),
+    )
+
+-- The buffer after an accepted sheet begins with the result.
+pub begins : (s out : List ℕ) → Accepted s (length out) → Holds (bufferAfter s out) 0 (resultOf (monthOf s))
+unfolding bufferAfter
+begins s out a = rw (eq-eqb _ _ a) (holds-front (resultOf (monthOf s)) (drop (resultLength (headerOf s)) out))
+
+-- The last sentence of demand 3.
+pub only-cut : (s out : List ℕ) → Accepted s (length out) → OnlyCut s (bufferAfter s out)
+only-cut s out a =
+    let m = monthOf s in
+    let w = limits s (length out) a .month in
+    let read = row-read m w (bufferAfter s out) (begins s out a) in
+    record {
+      actual = λ j l. rw (read j l) (actual-le-cut m w j l);
+      after-cut = λ j l. rw (read j l) (cut-le-volume m j);
+    }
+
+-- Two months with one header, the second worse, and two buffers that begin with their results.
+module _ (m m′ : Month) (e : m′ .header ≡ m .header) (w : MonthLimits m) (w′ : MonthLimits m′) (worse : Worse m m′)
+    (out out′ : List ℕ) (b : Holds out 0 (resultOf m)) (b′ : Holds out′ 0 (resultOf m′)) where
+  row′ : (j : ℕ) → j < m .header .rows → readRow out′ j ≡ rowFigures m′ j
+  row′ j l = row-read m′ w′ out′ b′ j (rw (ap (λ (h : Header). h .rows) e) l)
+
+  consumer′ : (c : ℕ) → c < m .header .consumers → readConsumer (m .header) out′ c ≡ consumerFigures m′ c
+  consumer′ c l =
+      ap (λ (h : Header). readConsumer h out′ c) (sym e)
+      ∙ consumer-read m′ w′ out′ b′ c (rw (ap (λ (h : Header). h .consumers) e) l)
+
+  totals′ : readTotals (m .header) out′ ≡ totalFigures m′
+  totals′ = ap (λ (h : Header). readTotals h out′) (sym e) ∙ totals-read m′ w′ out′ b′
+
+  months-no-better : NoBetter (m .header) out out′
+  months-no-better =
+      record {
+        row-actual = λ j l. rw (row′ j l, row-read m w out b j l) (Months.actual-down m m′ e w worse j l);
+        row-payment = λ j l. rw (row′ j l, row-read m w out b j l) (Months.payment-down m m′ e w worse j l);
+        consumer-volume = λ c l. rw (consumer′ c l, consumer-read m w out b c l) (Months.volume-up m m′ e w worse c l);
+        consumer-charge = λ c l. rw (consumer′ c l, consumer-read m w out b c l) (Months.charge-up m m′ e w worse c l);
+        total-paid = rw (totals′, totals-read m w out b) (Months.paid-down m m′ e w worse);
+        total-charged = rw (totals′, totals-read m w out b) (Months.charged-up m m′ e w worse);
+      }
+
+-- Demand 3.
+pub no-better : (s s′ out out′ : List ℕ) → Accepted s (length out) → Accepted s′ (length out′) → WorseSheet s s′
+    → NoBetter (headerOf s) (bufferAfter s out) (bufferAfter s′ out′)
+no-better s s′ out out′ a a′ w =
+    months-no-better (monthOf s) (monthOf s′) (same-header s s′ (w .header))
+    (limits s (length out) a .month) (limits s′ (length out′) a′ .month) (w .figures)
+    (bufferAfter s out) (bufferAfter s′ out′) (begins s out a) (begins s′ out′ a′)

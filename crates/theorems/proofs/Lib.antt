@@ -1,0 +1,9 @@
+pub mod Bands
+pub mod Producers
+pub mod Consumers
+pub mod Rows
+pub mod Months
+pub mod ReadBack
+pub mod Demand1
+pub mod Demand3
+pub mod Demands

@@ -1,0 +1,62 @@
+-- Demand 3 as statements: the relation of two sheets, what it must do to their results, and the order of a row's volumes.
+use Prim.Native.Nat.{ℕ, _≤_, _<_}
+use mathlib.Core.Path.{_≡_}
+use mathlib.Core.List.{List}
+use lib.ListN.{take}
+use Rattle.rules.specs.Month.{Header, Producer, Consumer, Month, hours}
+use Rattle.rules.specs.Sheet.{headerWidth, monthOf}
+use Rattle.rules.specs.Result.{readRow, readConsumer, readTotals}
+
+-- The second producer is alike, or worse in this: attested capacity, working powers and given coefficients may be lower,
+-- outside-use readings and missing-hour counts higher.
+pub record WorseProducer (hours : ℕ) (p p′ : Producer) : Type 0 where
+  pub attested : p′ .attested ≤ p .attested
+  pub deductible : p′ .deductible ≡ p .deductible
+  pub ownNeeds : p′ .ownNeeds ≡ p .ownNeeds
+  pub noUpwardBid : p .noUpwardBid ≤ p′ .noUpwardBid
+  pub noDownwardBid : p .noDownwardBid ≤ p′ .noDownwardBid
+  pub noPlan : p .noPlan ≤ p′ .noPlan
+  pub k3 : p′ .k3 ≤ p .k3
+  pub k6 : p′ .k6 ≤ p .k6
+  pub k7 : p′ .k7 ≤ p .k7
+  pub k8 : p′ .k8 ≤ p .k8
+  pub k9 : p′ .k9 ≤ p .k9
+  pub k10 : p′ .k10 ≤ p .k10
+  pub working : (i : ℕ) → i < hours → p′ .working i ≤ p .working i
+  pub possible : (i : ℕ) → i < hours → p′ .possible i ≡ p .possible i
+  pub outsideUse : (i : ℕ) → i < hours → p .outsideUse i ≤ p′ .outsideUse i
+
+-- The second consumer is alike, or worse in this: peak, mining-day counts and z may be higher.
+pub record WorseConsumer (c c′ : Consumer) : Type 0 where
+  pub contract : c′ .contract ≡ c .contract
+  pub peak : c .peak ≤ c′ .peak
+  pub supplierMining : c .supplierMining ≤ c′ .supplierMining
+  pub gridMining : c .gridMining ≤ c′ .gridMining
+  pub z : c .z ≤ c′ .z
+  pub price : c′ .price ≡ c .price
+
+-- Each producer and consumer is alike or worse in the second month, in any number of places at once or in none; each row is the same.
+pub record Worse (m m′ : Month) : Type 0 where
+  pub producer : (p : ℕ) → p < m .header .producers → WorseProducer (hours (m .header)) (m .producer p) (m′ .producer p)
+  pub row : (j : ℕ) → j < m .header .rows → m′ .row j ≡ m .row j
+  pub consumer : (c : ℕ) → c < m .header .consumers → WorseConsumer (m .consumer c) (m′ .consumer c)
+
+-- Two sheets with the same header, of which the second is alike or worse.
+pub record WorseSheet (s s′ : List ℕ) : Type 0 where
+  pub header : take headerWidth s′ ≡ take headerWidth s
+  pub figures : Worse (monthOf s) (monthOf s′)
+
+-- The second result pays no more and charges no less, each figure as it is read from the result's bytes:
+-- no row has a larger actual volume or payment, no consumer a smaller actual volume or charge, total paid is no larger, total charged no smaller.
+pub record NoBetter (h : Header) (out out′ : List ℕ) : Type 0 where
+  pub row-actual : (j : ℕ) → j < h .rows → readRow out′ j .actual ≤ readRow out j .actual
+  pub row-payment : (j : ℕ) → j < h .rows → readRow out′ j .payment ≤ readRow out j .payment
+  pub consumer-volume : (c : ℕ) → c < h .consumers → readConsumer h out c .volume ≤ readConsumer h out′ c .volume
+  pub consumer-charge : (c : ℕ) → c < h .consumers → readConsumer h out c .charge ≤ readConsumer h out′ c .charge
+  pub total-paid : readTotals h out′ .paid ≤ readTotals h out .paid
+  pub total-charged : readTotals h out .charged ≤ readTotals h out′ .charged
+
+-- Each row's actual volume is at most its volume after the cut, which is at most the volume that the sheet gives the row.
+pub record OnlyCut (s out : List ℕ) : Type 0 where
+  pub actual : (j : ℕ) → j < monthOf s .header .rows → readRow out j .actual ≤ readRow out j .afterCut
+  pub after-cut : (j : ℕ) → j < monthOf s .header .rows → readRow out j .afterCut ≤ monthOf s .row j .volume
