@@ -51,7 +51,7 @@ unfoldable pub afterCut : Month → ℕ → ℕ
 afterCut m j = m .row j .volume - leftToCut m (m .row j .producer) j
 
 -- The same cut as it is told, row by row: of volumes in order each gives as much as it has, until the excess is used up.
--- (row-by-row, in proofs/Cut, shows that the volumes after the cut are these.)
+-- (row-by-row, in laws/Cut, shows that the volumes after the cut are these.)
 unfoldable pub cutInOrder : ℕ → List ℕ → List ℕ
 cutInOrder left [] = []
 cutInOrder left (v ∷ vs) = (v - min v left) ∷ cutInOrder (left - min v left) vs

@@ -52,7 +52,7 @@ unfoldable pub consumerAt : Header → ℕ → ℕ
 consumerAt h c = rowAt h (h .rows) + consumerWidth * c
 
 -- The length that the header's month and counts ask for: the place past the last consumer.
--- (sheet-length, in proofs/Sheet: 14 + P × (42 + 288 × days) + 10 × R + 15 × C.)
+-- (sheet-length, in laws/Sheet: 14 + P × (42 + 288 × days) + 10 × R + 15 × C.)
 unfoldable pub sheetLength : Header → ℕ
 sheetLength h = consumerAt h (h .consumers)
 

@@ -152,8 +152,10 @@ hourFigures =
     -- the cut leaves k4 alone: S 200.0, attested 150.0, possible 200.0, working 150.0: 0.75, and the row 150 × 0.75 = 112.5. With S cut, 1
     ∷ figure (k4 (powerMonth 1500 2000 0 (every 1500) (every 2000))) 750000
     ∷ figure (actual (powerMonth 1500 2000 0 (every 1500) (every 2000)) 0) 1125
-    -- lower possible power raises k4 (and is not in demand 3): possible 150.0 in place of 200.0 gives 1
-    ∷ figure (k4 (powerMonth 2000 2000 0 (every 1500) (every 1500))) 1000000
+    -- lower possible power may pay more, so demand 3 holds it fixed: attested and S 200.0, working 150.0. Possible 200.0: 200 × 0.75 = 150.0;
+    -- possible 150.0: 200.0
+    ∷ figure (actual (powerMonth 2000 2000 0 (every 1500) (every 2000)) 0) 1500
+    ∷ figure (actual (powerMonth 2000 2000 0 (every 1500) (every 1500)) 0) 2000
     ∷ []
 
 -- The cut and the rows --------------------------------------------------------------------------------------------------------------

@@ -9,7 +9,7 @@ use lib.Ieee.Fits.{and-l, and-r}
 use borrow.Author.Tests.{leb-false, lt-leb}
 use Rattle.rules.specs.declared.Band.{Band}
 use Rattle.rules.specs.Bands.{bands, factorOf, bandOf, overNothing, thousandths}
-use Rattle.rules.proofs.Units.{rounded-mono}
+use Rattle.laws.proofs.Units.{rounded-mono}
 
 -- No factor of the table is below the one before it.
 abbrev pub rising : List Band → Bool

@@ -5,7 +5,7 @@ use native.Mathlib.Nat.{le-refl, le-of-eq, add-le-add, mul-le-mul}
 use native.Mathlib.Omega.{arith}
 use Rattle.rules.specs.Month.{Header, Consumer, Month}
 use Rattle.rules.specs.Consumers.{credit, countedPeak, overContract, percentOf, bracket, mining, volumeOf, volume, charge}
-use Rattle.rules.proofs.Units.{rounded-mono, money-mono}
+use Rattle.laws.proofs.Units.{rounded-mono, money-mono}
 use Rattle.theorems.specs.Demand3.{WorseConsumer}
 use Rattle.theorems.proofs.Bands.{band-mono, thousandths-mono}
 

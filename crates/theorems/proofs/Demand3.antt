@@ -12,10 +12,10 @@ use Rattle.rules.specs.Fields.{be}
 use Rattle.rules.specs.Sheet.{headerWidth, headerOf, monthOf}
 use Rattle.rules.specs.Result.{readRow, readConsumer, readTotals, rowFigures, consumerFigures, totalFigures, resultLength, resultOf}
 use Rattle.rules.specs.Outcome.{Accepted, bufferAfter}
-use Rattle.rules.proofs.Fields.{be-same, Holds, holds-front}
-use Rattle.rules.proofs.Refusals.{limits}
-use Rattle.rules.proofs.Cut.{cut-le-volume}
-use Rattle.rules.proofs.Rows.{actual-le-cut}
+use Rattle.laws.proofs.Fields.{be-same, Holds, holds-front}
+use Rattle.laws.proofs.Refusals.{limits}
+use Rattle.laws.proofs.Cut.{cut-le-volume}
+use Rattle.laws.proofs.Rows.{actual-le-cut}
 use Rattle.theorems.specs.Demand3.{Worse, WorseSheet, NoBetter, OnlyCut}
 use Rattle.theorems.proofs.ReadBack.{row-read, consumer-read, totals-read}
 use Rattle.theorems.proofs.Months as Months

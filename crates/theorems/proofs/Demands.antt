@@ -13,10 +13,10 @@ use Rattle.rules.specs.Consumers.{volumeOf}
 use Rattle.rules.specs.Result.{rowFigures, consumerFigures, totalFigures, rowFields, consumerFields, totalFields, resultLength, resultOf, readRow, readConsumer, readTotals}
 use Rattle.rules.specs.Refusals.{formTests, tests, firstOf, refusal}
 use Rattle.rules.specs.Outcome.{refused, written, Accepted, outcome, bufferAfter, hoursStretch}
-use Rattle.rules.proofs.Fields.{Fit}
-use Rattle.rules.proofs.Sheet.{hours-inside}
-use Rattle.rules.proofs.Refusals as Refusals
-use Rattle.rules.proofs.Cut as Cut
+use Rattle.laws.proofs.Fields.{Fit}
+use Rattle.laws.proofs.Sheet.{hours-inside}
+use Rattle.laws.proofs.Refusals as Refusals
+use Rattle.laws.proofs.Cut as Cut
 use Rattle.theorems.specs.Demand1.{First}
 use Rattle.theorems.specs.Demand3.{WorseSheet, NoBetter, OnlyCut}
 use Rattle.theorems.proofs.ReadBack as ReadBack

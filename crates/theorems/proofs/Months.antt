@@ -7,7 +7,7 @@ use Rattle.rules.specs.Cut.{support, bilateral}
 use Rattle.rules.specs.Rows.{actual, payment}
 use Rattle.rules.specs.Consumers.{credited, credit, volume, charge}
 use Rattle.rules.specs.Totals.{totalPaid, totalCharged}
-use Rattle.rules.proofs.Range.{sum-mono, when-mono}
+use Rattle.laws.proofs.Range.{sum-mono, when-mono}
 use Rattle.theorems.specs.Demand3.{Worse}
 use Rattle.theorems.proofs.Rows as Rows
 use Rattle.theorems.proofs.Consumers as Consumers

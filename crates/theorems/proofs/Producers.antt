@@ -9,8 +9,8 @@ use Rattle.rules.specs.Units.{one}
 use Rattle.rules.specs.Month.{Header, Producer, hours}
 use Rattle.rules.specs.ControlHours.{controlHour, counted, controlSum, controlCount, average, controlAverage}
 use Rattle.rules.specs.Coefficients.{share, overuse, penalty, lessPenalty, k1, k2, asked, met, k4, k5, inOrder}
-use Rattle.rules.proofs.Range.{sum-mono, sum-same, when-mono}
-use Rattle.rules.proofs.Units.{rounded-mono}
+use Rattle.laws.proofs.Range.{sum-mono, sum-same, when-mono}
+use Rattle.laws.proofs.Units.{rounded-mono}
 use Rattle.theorems.specs.Demand3.{WorseProducer}
 use Rattle.theorems.proofs.Bands.{band-mono, thousandths-mono}
 

@@ -9,8 +9,8 @@ use Rattle.rules.specs.Month.{Month}
 use Rattle.rules.specs.Limits.{MonthLimits}
 use Rattle.rules.specs.Fields.{laid, widthOf, joined}
 use Rattle.rules.specs.Result.{rowFigures, consumerFigures, totalFigures, rowFields, consumerFields, totalFields, headFields, resultLength, rowRecord, consumerRecord, resultOf, rowRecordAt, consumerRecordAt, totalsAt, readRow, readConsumer, readTotals}
-use Rattle.rules.proofs.Fields.{Holds, holds-left, holds-right, length-laid, Fit, read-laid, length-joined, held-record}
-use Rattle.rules.proofs.Figures as Figures
+use Rattle.laws.proofs.Fields.{Holds, holds-left, holds-right, length-laid, Fit, read-laid, length-joined, held-record}
+use Rattle.laws.proofs.Figures as Figures
 
 module _ (m : Month) where
   length-row : (j : ℕ) → length (rowRecord m j) ≡ 16

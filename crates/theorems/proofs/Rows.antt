@@ -12,8 +12,8 @@ use Rattle.rules.specs.Month.{Header, Row, Month, hours}
 use Rattle.rules.specs.Cut.{owns, support, bilateral, ownVolume, ownSupport, ownBilateral, supportVolume, bilateralVolume, summedCapacity, excess, leftToCut, afterCut}
 use Rattle.rules.specs.Coefficients.{coefficients}
 use Rattle.rules.specs.Rows.{running, through, actual, payment}
-use Rattle.rules.proofs.Range.{sum-same}
-use Rattle.rules.proofs.Units.{rounded-mono, tenths-mono, millionths-mono, money-mono}
+use Rattle.laws.proofs.Range.{sum-same}
+use Rattle.laws.proofs.Units.{rounded-mono, tenths-mono, millionths-mono, money-mono}
 use Rattle.theorems.specs.Demand3.{WorseProducer}
 use Rattle.theorems.proofs.Producers.{NoMore, end, each, in-order-down}
 

@@ -1,5 +1,5 @@
 -- The cut is the one taken row by row, and never adds. Assumes nothing.
-use mathlib.Core.Path.{_≡_, refl, ap, _∙_}
+use mathlib.Core.Path.{_≡_, refl, sym, ap, _∙_}
 use mathlib.Core.Bool.{Bool, true, false, cond}
 use mathlib.Core.List.{List, [], _∷_, _++_, append-nil}
 use Prim.Native.Nat.{ℕ, zero, suc, _+_, _-_, _≤_, min}
@@ -7,10 +7,10 @@ use native.Mathlib.Nat.{sub-le}
 use native.Mathlib.Omega.{arith}
 use borrow.Author.Tests.{eqb-true}
 use lib.Dec.{eqb}
 use Rattle.rules.specs.Range.{sum, when}
 use Rattle.rules.specs.Month.{Month}
 use Rattle.rules.specs.Cut.{owns, ownVolume, excess, leftToCut, afterCut, cutInOrder, ownRows}
-use Rattle.rules.proofs.Range.{sum-more}
+use Rattle.laws.proofs.Range.{sum-more}
 
 -- The turn of a loop over the rows: row j gives as much as it has.
 pub left-more : (m : Month) (p j : ℕ) → leftToCut m p (j + 1) ≡ leftToCut m p j - ownVolume m p j
@@ -71,4 +71,4 @@ module _ (m : Month) (p : ℕ) where
       go : (b : Bool) → eqb (m .row n .producer) p ≡ b → cut ≡ cutInOrder (excess m p) own
           → cut ++ cond b (afterCut m n ∷ []) [] ≡ cutInOrder (excess m p) (own ++ cond b (volumeOfRow n ∷ []) [])
       go true q e = rw (cut-last, kept (eqb-true _ _ q), e)
-      go false q e = rw (append-nil, append-nil) e
+      go false q e = append-nil cut ∙ e ∙ ap (cutInOrder (excess m p)) (sym (append-nil own))

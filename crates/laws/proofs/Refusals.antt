@@ -9,15 +9,15 @@ use borrow.Author.Tests.{ltb-false, leb-false, eqb-true, eqb-false, ne-eqb, eq-e
 use lib.Pow.{pow-pos}
 use lib.Dec.{T, leb, ltb, eqb, leb→le}
 use lib.Ieee.Fits.{and-l, and-r}
 use Rattle.rules.specs.Range.{any}
 use Rattle.rules.specs.Units.{tenthsCeiling, tiynCeiling}
 use Rattle.rules.specs.Month.{Header, Producer, Row, Consumer, Month, hours}
 use Rattle.rules.specs.Sheet.{headerOf, monthOf}
 use Rattle.rules.specs.Result.{resultLength}
 use Rattle.rules.specs.Refusals.{oneOf, badMonth, tooMany, badShare, tooHigh, highHour, highProducer, highRow, highConsumer, badReference, tooDear, badFactor, Test, formTests, roomTests, figureTests, tests, applies, firstOf, refusal}
 use Rattle.rules.specs.Limits.{HeaderLimits, ProducerLimits, RowLimits, ConsumerLimits, MonthLimits, FormLimits, SheetLimits}
 use Rattle.rules.specs.Outcome.{Accepted}
-use Rattle.rules.proofs.Range.{or-left, or-right, any-clear, any-none}
+use Rattle.laws.proofs.Range.{or-left, or-right, any-clear, any-none}
 
 -- Where the first number is 0 no test applies, if none has the number 0.
 abbrev pub numbered : List Test → Bool

@@ -4,12 +4,12 @@ use mathlib.Core.List.{List, [], _∷_}
 use Prim.Native.Nat.{ℕ, zero, suc, zero-le, _*_, _≤_}
 use native.Mathlib.Nat.{le-refl, sub-le}
 use native.Mathlib.Omega.{arith}
 use Rattle.rules.specs.Units.{one}
 use Rattle.rules.specs.Month.{Header, Producer, hours}
 use Rattle.rules.specs.Limits.{ProducerLimits}
 use Rattle.rules.specs.Coefficients.{share, penalty, lessPenalty, k1, k2, asked, met, k4, k5, inOrder}
-use Rattle.rules.proofs.Range.{sum-mono}
-use Rattle.rules.proofs.Units.{rounded-at-most}
+use Rattle.laws.proofs.Range.{sum-mono}
+use Rattle.laws.proofs.Units.{rounded-at-most}
 
 -- A share of a part is at most 1.
 pub share-at-most : (whole : ℕ) {part : ℕ} → part ≤ whole → share part whole ≤ one
