@@ -1,5 +1,5 @@
--- Control hours (document 01, Control hours; Order 152, point 2, 4)): 17:00 to 23:00, Monday to Friday, holidays excepted.
--- Days are counted from 0 here, day 1 of the month being 0; hours run through the month.
+-- Control hours: 17:00 to 23:00, Monday to Friday, holidays excepted. Days are counted from 0 here, day 1 of the month being 0, and
+-- hours run through the month.
 use Prim.Native.Nat.{ℕ, zero, suc, _+_, _/_, _%_, _^_}
 use mathlib.Core.Bool.{Bool, not, _&&_}
 use lib.Dec.{leb, eqb}
@@ -7,41 +7,43 @@ use Rattle.rules.specs.Range.{sum, when}
 use Rattle.rules.specs.Units.{rounded}
 use Rattle.rules.specs.Month.{Header, hours}
 
--- The weekday of a day, Monday 1 to Sunday 7. (6 days on is the weekday before.)
+-- The weekday of a day, Monday 1 to Sunday 7; 6 days on it is the weekday before. [Control hours; p. 2, 4)]
 unfoldable pub weekdayOn : Header → ℕ → ℕ
 weekdayOn h day = (h .weekday + day + 6) % 7 + 1
 
--- A day whose bit stands in the holidays.
+-- A day whose bit stands in the holidays. [Units and the sheet, Header; p. 2, 4)]
 unfoldable pub holidayOn : Header → ℕ → Bool
 holidayOn h day = eqb (h .holidays / 2 ^ day % 2) 1
 
--- A control day: Monday to Friday, and no holiday.
+-- A control day: Monday to Friday, and no holiday. [Control hours; p. 2, 4)]
 unfoldable pub controlDay : Header → ℕ → Bool
 controlDay h day = leb (weekdayOn h day) 5 && not (holidayOn h day)
 
--- A control hour: hours 17 to 22 of a control day. Hour 23 is none.
+-- A control hour: hours 17 to 22 of a control day. Hour 23 is none. [Control hours; p. 2, 4)]
 unfoldable pub controlHour : Header → ℕ → Bool
 controlHour h hour = leb 17 (hour % 24) && leb (hour % 24) 22 && controlDay h (hour / 24)
 
--- What an hour of a series adds to the control sum: its figure in a control hour, otherwise nothing.
+-- What an hour of a series adds to the control sum: its figure in a control hour, otherwise nothing. [Control hours]
 unfoldable pub counted : Header → (ℕ → ℕ) → ℕ → ℕ
 counted h series hour = when (controlHour h hour) (series hour)
 
--- The sum of an hourly series over the control hours, and the count of these.
+-- The sum of an hourly series over the control hours. [Control hours]
 unfoldable pub controlSum : Header → (ℕ → ℕ) → ℕ
 controlSum h series = sum (counted h series) (hours h)
 
+-- The series that counts: 1 in every hour. [Control hours]
 abbrev pub once : ℕ → ℕ
 once hour = 1
 
+-- The count of the control hours. [Control hours]
 unfoldable pub controlCount : Header → ℕ
 controlCount h = controlSum h once
 
--- A sum over a count, rounded; 0 where there is nothing to count.
+-- A sum over a count, rounded; 0 where there is nothing to count. [Control hours]
 unfoldable pub average : ℕ → ℕ → ℕ
 average total zero = 0
 average total (suc n) = rounded total (suc n)
 
--- The control average of a series, rounded to its unit; 0 in a month without a control day.
+-- The control average of a series, rounded to its unit; 0 in a month without a control day. [Control hours; A2 p. 1]
 unfoldable pub controlAverage : Header → (ℕ → ℕ) → ℕ
 controlAverage h series = average (controlSum h series) (controlCount h)

@@ -1,4 +1,4 @@
--- The cut (document 01, Cut; Order 152, points 35 and 90).
+-- The cut: what a producer sold beyond its attested capacity is taken from its rows in sheet order.
 use Prim.Native.Nat.{ℕ, zero, suc, _+_, _-_, min}
 use mathlib.Core.Bool.{Bool, not, cond, _&&_}
 use mathlib.Core.List.{List, [], _∷_, _++_}
@@ -6,57 +6,61 @@ use lib.Dec.{eqb}
 use Rattle.rules.specs.Range.{sum, when}
 use Rattle.rules.specs.Month.{Month}
 
--- Row j is producer p's.
+-- Row j is producer p's. [Units and the sheet, Rows]
 unfoldable pub owns : Month → ℕ → ℕ → Bool
 owns m p j = eqb (m .row j .producer) p
 
--- A support row sells to the single buyer, 255; any other is a bilateral row.
+-- A support row sells to the single buyer, 255. [Units and the sheet, Rows]
 unfoldable pub support : Month → ℕ → Bool
 support m j = eqb (m .row j .consumer) 255
 
+-- Any other row is a bilateral row. [Units and the sheet, Rows]
 unfoldable pub bilateral : Month → ℕ → Bool
 bilateral m j = not (support m j)
 
--- What row j adds to the volumes of producer p's rows, its support rows, its bilateral rows.
+-- What row j adds to the volume of producer p's rows. [Cut]
 unfoldable pub ownVolume : Month → ℕ → ℕ → ℕ
 ownVolume m p j = when (owns m p j) (m .row j .volume)
 
+-- What row j adds to the volume of producer p's support rows. [Cut]
 unfoldable pub ownSupport : Month → ℕ → ℕ → ℕ
 ownSupport m p j = when (owns m p j && support m j) (m .row j .volume)
 
+-- What row j adds to the volume of producer p's bilateral rows. [Cut]
 unfoldable pub ownBilateral : Month → ℕ → ℕ → ℕ
 ownBilateral m p j = when (owns m p j && bilateral m j) (m .row j .volume)
 
--- T, the sum of producer p's support rows, and B, of its bilateral rows, as the sheet has them.
+-- T: the sum of producer p's support rows' volumes, as the sheet has them. [Cut; p. 2, 11)]
 unfoldable pub supportVolume : Month → ℕ → ℕ
 supportVolume m p = sum (ownSupport m p) (m .header .rows)
 
+-- B: the sum of producer p's bilateral rows' volumes, as the sheet has them. [Cut; p. 90]
 unfoldable pub bilateralVolume : Month → ℕ → ℕ
 bilateralVolume m p = sum (ownBilateral m p) (m .header .rows)
 
--- S = T + B + deductible (point 2, 11) with the bilateral volume).
+-- S = T + B + deductible. [Cut; p. 2, 11), p. 90]
 unfoldable pub summedCapacity : Month → ℕ → ℕ
 summedCapacity m p = supportVolume m p + bilateralVolume m p + m .producer p .deductible
 
--- The excess: S less own needs, less attested capacity, neither below 0.
+-- The excess: S less own needs, less attested capacity, neither below 0. [Cut; p. 35, 90]
 unfoldable pub excess : Month → ℕ → ℕ
 excess m p = summedCapacity m p - m .producer p .ownNeeds - m .producer p .attested
 
--- What is left of producer p's excess when row j's turn comes: its rows before j gave as much as they had.
+-- What is left of producer p's excess when row j's turn comes: its rows before j gave as much as they had. [Cut]
 unfoldable pub leftToCut : Month → ℕ → ℕ → ℕ
 leftToCut m p j = excess m p - sum (ownVolume m p) j
 
--- The volume of row j after the cut: what it has less what is left to cut, not below 0.
+-- The volume of row j after the cut: what it has less what is left to cut, not below 0. [Cut]
 unfoldable pub afterCut : Month → ℕ → ℕ
 afterCut m j = m .row j .volume - leftToCut m (m .row j .producer) j
 
--- The same cut as it is told, row by row: of volumes in order each gives as much as it has, until the excess is used up.
+-- The same cut as it is told, row by row: of volumes in order each gives as much as it has, until the excess is used up. [Cut]
 -- (row-by-row, in laws/Cut, shows that the volumes after the cut are these.)
 unfoldable pub cutInOrder : ℕ → List ℕ → List ℕ
 cutInOrder left [] = []
 cutInOrder left (v ∷ vs) = (v - min v left) ∷ cutInOrder (left - min v left) vs
 
--- A figure of each of producer p's rows among the first n, in sheet order.
+-- A figure of each of producer p's rows among the first n, in sheet order. [Cut]
 unfoldable pub ownRows : Month → ℕ → (ℕ → ℕ) → ℕ → List ℕ
 ownRows m p f zero = []
 ownRows m p f (suc n) = ownRows m p f n ++ cond (owns m p n) (f n ∷ []) []

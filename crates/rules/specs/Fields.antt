@@ -1,4 +1,4 @@
--- Fields (document 01, Units and the sheet): unsigned and big-endian, one definition for every width.
+-- Fields: unsigned and big-endian, one definition for every width. [Units and the sheet]
 use Prim.Native.Nat.{ℕ, zero, suc, _+_, _*_, _/_, _%_}
 use mathlib.Core.List.{List, [], _∷_, _++_}
 use lib.ListN.{getD}

@@ -1,9 +1,9 @@
--- A month as its sheet states it (document 01, Units and the sheet): named figures, with producers, rows, consumers and hours counted from 0.
+-- A month as its sheet states it: named figures, with producers, rows, consumers and hours counted from 0.
 -- Capacities, powers, volumes and peaks are in tenths of a megawatt, coefficients in millionths, prices in tiyn per megawatt and month.
 -- Where a figure stands among the sheet's bytes is said in Sheet and nowhere else.
 use Prim.Native.Nat.{ℕ, _*_}
 
--- The header's month and counts: P producers, R rows, C consumers.
+-- The header's month and counts: P producers, R rows, C consumers. [Units and the sheet, Header]
 pub record Header : Type 0 where
   pub days : ℕ
   -- weekday of day 1, Monday 1 to Sunday 7
@@ -14,9 +14,9 @@ pub record Header : Type 0 where
   pub rows : ℕ
   pub consumers : ℕ
 
--- A producer. Attested capacity, deductible capacity, greatest own needs (Order 152, point 2, 3), 10) and 9));
--- hours without an upward bid, without a downward bid, without a plan; the given coefficients; and for each hour of the month
--- working, possible and outside-use power (possible: point 2, 8)).
+-- A producer: attested capacity, deductible capacity, greatest own needs; hours without an upward bid, without a downward bid, without a
+-- plan; the given coefficients; and for each hour of the month working, possible and outside-use power.
+-- [Units and the sheet, Producers; p. 2, 3), 10), 9) and 8), p. 40, 41]
 pub record Producer : Type 0 where
   pub attested : ℕ
   pub deductible : ℕ
@@ -34,14 +34,15 @@ pub record Producer : Type 0 where
   pub possible : ℕ → ℕ
   pub outsideUse : ℕ → ℕ
 
--- A contract row. Its consumer is 255 for the single buyer.
+-- A contract row. Its consumer is 255 for the single buyer. [Units and the sheet, Rows]
 pub record Row : Type 0 where
   pub producer : ℕ
   pub consumer : ℕ
   pub volume : ℕ
   pub price : ℕ
 
--- A consumer: contract volume DO, peak, mining days of the supplier T'' and of the grid company T''', z in tenths, price (point 59).
+-- A consumer: contract volume DO, peak, mining days of the supplier T'' and of the grid company T''', z in tenths, price.
+-- [Units and the sheet, Consumers; p. 59]
 pub record Consumer : Type 0 where
   pub contract : ℕ
   pub peak : ℕ
@@ -50,12 +51,13 @@ pub record Consumer : Type 0 where
   pub z : ℕ
   pub price : ℕ
 
+-- The month: its header, and each producer, row and consumer by its place. [Units and the sheet]
 pub record Month : Type 0 where
   pub header : Header
   pub producer : ℕ → Producer
   pub row : ℕ → Row
   pub consumer : ℕ → Consumer
 
--- H, the hours of the month.
+-- H, the hours of the month. [Coefficients]
 abbrev pub hours : Header → ℕ
 hours h = 24 * h .days

@@ -1,5 +1,4 @@
--- What is answered and what is left behind, for every sheet and every result buffer (document 01, Result; When a sheet is turned down;
--- Units and the sheet, for the stretch of hours handed back).
+-- What is answered and what is left behind, for every sheet and every result buffer.
 use Prim.Native.Nat.{ℕ}
 use mathlib.Core.Path.{_≡_}
 use mathlib.Core.Bool.{cond, _&&_}
@@ -10,36 +9,39 @@ use Rattle.rules.specs.Sheet.{headerOf, monthOf, hourAt, hoursWidth}
 use Rattle.rules.specs.Result.{resultLength, resultOf}
 use Rattle.rules.specs.Refusals.{formTests, firstOf, refusal}
 
--- The answer: a refusal with its number, or the count of bytes written.
+-- The answer: a refusal with its number, or the count of bytes written. [When a sheet is turned down]
 pub data Outcome : Type 0 where
   refused : ℕ → Outcome
   written : ℕ → Outcome
 
--- No number applies to the sheet, with a result buffer of so many bytes.
+-- No number applies to the sheet, with a result buffer of so many bytes. [When a sheet is turned down]
 abbrev pub Accepted : List ℕ → ℕ → Type 0
 Accepted s room = refusal s room ≡ 0
 
+-- What a sheet is answered: the first number that applies, or the length of its result. [Result; When a sheet is turned down]
 unfoldable pub outcome : List ℕ → ℕ → Outcome
 outcome s room =
     cond (eqb (refusal s room) 0) (written (resultLength (headerOf s))) (refused (refusal s room))
 
 -- The result buffer afterwards: the result from its beginning, and past it what was there; after a refusal all of what was there.
+-- [Result; When a sheet is turned down]
 unfoldable pub bufferAfter : List ℕ → List ℕ → List ℕ
 bufferAfter s out =
     cond (eqb (refusal s (length out)) 0) (resultOf (monthOf s) ++ drop (resultLength (headerOf s)) out) out
 
--- A stretch of a sheet: its place and its length.
+-- A stretch of a sheet: its place and its length. [Units and the sheet]
 pub record Stretch : Type 0 where
   pub place : ℕ
   pub bytes : ℕ
 
 -- The stretch that holds producer p's hours; an empty one for a sheet turned down by 1 to 6, or a producer not below P.
+-- [Units and the sheet]
 unfoldable pub hoursStretch : List ℕ → ℕ → Stretch
 hoursStretch s p =
     cond (eqb (firstOf (formTests s)) 0 && ltb p (headerOf s .producers))
     (record { place = hourAt (headerOf s) p 0; bytes = hoursWidth (headerOf s) })
     (record { place = 0; bytes = 0 })
 
--- The bytes of the sheet in a stretch.
+-- The bytes of the sheet in a stretch. [Units and the sheet]
 unfoldable pub within : Stretch → List ℕ → List ℕ
 within part s = take (part .bytes) (drop (part .place) s)

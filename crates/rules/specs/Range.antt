@@ -1,4 +1,4 @@
--- Sums and tests over the places below a count: how the sections say "the sum over", "any" and "only where".
+-- Sums and tests over the places below a count: how every section says "the sum over", "any" and "only where".
 use Prim.Native.Nat.{ℕ, zero, suc, _+_}
 use mathlib.Core.Bool.{Bool, false, cond, _||_}
 

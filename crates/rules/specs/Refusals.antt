@@ -1,4 +1,5 @@
--- Refusals (document 01, When a sheet is turned down): numbers 1 to 12, each tried over the whole sheet before the next, and the first that applies.
+-- Refusals: numbers 1 to 12, each tried over the whole sheet before the next, and the first that applies.
+-- [When a sheet is turned down, throughout; the number stands before each test]
 use Prim.Native.Nat.{ℕ, _/_, _^_}
 use mathlib.Core.Bool.{Bool, false, not, cond, _||_, _&&_}
 use mathlib.Core.List.{List, [], _∷_, _++_}
@@ -45,14 +46,16 @@ badShare h p =
     ∷ ltb one (p .k10)
     ∷ [])
 
--- 9: a capacity figure is above the ceiling of tenths, in a producer, an hour, a row or a consumer.
+-- 9: a capacity figure is above the ceiling of tenths.
 unfoldable pub tooHigh : ℕ → Bool
 tooHigh tenths = ltb tenthsCeiling tenths
 
+-- 9, in an hour.
 unfoldable pub highHour : Producer → ℕ → Bool
 highHour p hour =
     oneOf (tooHigh (p .working hour) ∷ tooHigh (p .possible hour) ∷ tooHigh (p .outsideUse hour) ∷ [])
 
+-- 9, in a producer.
 unfoldable pub highProducer : Header → Producer → Bool
 highProducer h p =
     oneOf
@@ -62,9 +65,11 @@ highProducer h p =
     ∷ any (highHour p) (hours h)
     ∷ [])
 
+-- 9, in a row.
 unfoldable pub highRow : Row → Bool
 highRow r = tooHigh (r .volume)
 
+-- 9, in a consumer.
 unfoldable pub highConsumer : Consumer → Bool
 highConsumer c = oneOf (tooHigh (c .contract) ∷ tooHigh (c .peak) ∷ [])
 
@@ -90,13 +95,15 @@ badFactor h c =
     ∷ ltb 100 (c .z)
     ∷ [])
 
--- Some producer, row, consumer of the month passes a test.
+-- Some producer of the month passes a test.
 abbrev pub someProducer : Month → (Producer → Bool) → Bool
 someProducer m test = any (λ p. test (m .producer p)) (m .header .producers)
 
+-- Some row does.
 abbrev pub someRow : Month → (Row → Bool) → Bool
 someRow m test = any (λ j. test (m .row j)) (m .header .rows)
 
+-- Some consumer does.
 abbrev pub someConsumer : Month → (Consumer → Bool) → Bool
 someConsumer m test = any (λ c. test (m .consumer c)) (m .header .consumers)
 
@@ -148,5 +155,6 @@ unfoldable pub firstOf : List Test → ℕ
 firstOf [] = 0
 firstOf (t ∷ ts) = cond (t .applies) (t .number) (firstOf ts)
 
+-- The number that a sheet is refused with, for a result buffer of so many bytes; 0 where it is accepted.
 unfoldable pub refusal : List ℕ → ℕ → ℕ
 refusal s room = firstOf (tests s room)

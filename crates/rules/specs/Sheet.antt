@@ -1,19 +1,22 @@
--- The sheet (document 01, Units and the sheet): where each figure of a month stands. No other definition knows a place in the sheet.
+-- The sheet: where each figure of a month stands. No other definition knows a place in the sheet. [Units and the sheet, throughout]
 use Prim.Native.Nat.{ℕ, _+_, _*_}
 use mathlib.Core.List.{List}
 use Rattle.rules.specs.Month.{Header, Producer, Row, Consumer, Month}
 use Rattle.rules.specs.Fields.{be}
 
--- The header, 14 bytes: length of the whole sheet, version, then the month and the counts.
+-- The header's width.
 abbrev pub headerWidth : ℕ
 headerWidth = 14
 
+-- The length of the whole sheet, itself included.
 unfoldable pub lengthField : List ℕ → ℕ
 lengthField s = be 4 s 0
 
+-- The version.
 unfoldable pub version : List ℕ → ℕ
 version s = be 1 s 4
 
+-- The header's month and counts.
 abbrev pub headerOf : List ℕ → Header
 headerOf s =
     record {
@@ -25,29 +28,35 @@ headerOf s =
       consumers = be 1 s 13;
     }
 
--- The width of all hours of one producer (12 bytes each), of a producer with its hours, of a row, of a consumer.
+-- The width of a producer's hours: three powers of 4 bytes in each of 24 × days hours.
 abbrev pub hoursWidth : Header → ℕ
 hoursWidth h = 288 * h .days
 
+-- The width of a producer with its hours.
 abbrev pub producerWidth : Header → ℕ
 producerWidth h = 42 + hoursWidth h
 
+-- The width of a row.
 abbrev pub rowWidth : ℕ
 rowWidth = 10
 
+-- The width of a consumer.
 abbrev pub consumerWidth : ℕ
 consumerWidth = 15
 
--- Where producer p begins, its hour, row j and consumer c: producers after the header, then rows, then consumers.
+-- Where producer p begins: producers follow the header.
 unfoldable pub producerAt : Header → ℕ → ℕ
 producerAt h p = headerWidth + p * producerWidth h
 
+-- Where an hour of producer p begins: hours follow its other figures, hour 0 of day 1 first.
 unfoldable pub hourAt : Header → ℕ → ℕ → ℕ
 hourAt h p hour = producerAt h p + 42 + 12 * hour
 
+-- Where row j begins: rows follow the producers.
 unfoldable pub rowAt : Header → ℕ → ℕ
 rowAt h j = producerAt h (h .producers) + rowWidth * j
 
+-- Where consumer c begins: consumers follow the rows.
 unfoldable pub consumerAt : Header → ℕ → ℕ
 consumerAt h c = rowAt h (h .rows) + consumerWidth * c
 
@@ -56,7 +65,7 @@ consumerAt h c = rowAt h (h .rows) + consumerWidth * c
 unfoldable pub sheetLength : Header → ℕ
 sheetLength h = consumerAt h (h .consumers)
 
--- The producer, the row and the consumer whose bytes begin at a place; a producer's hours stand apart, 12 bytes an hour.
+-- The producer whose figures begin at a place, with the place of each of its hours.
 abbrev pub producerOf : List ℕ → ℕ → (ℕ → ℕ) → Producer
 producerOf s at hour =
     record {
@@ -77,10 +86,12 @@ producerOf s at hour =
       outsideUse = λ i. be 4 s (hour i + 8);
     }
 
+-- The row whose figures begin at a place.
 abbrev pub rowOf : List ℕ → ℕ → Row
 rowOf s at =
     record { producer = be 1 s at; consumer = be 1 s (at + 1); volume = be 4 s (at + 2); price = be 4 s (at + 6) }
 
+-- The consumer whose figures begin at a place.
 abbrev pub consumerOf : List ℕ → ℕ → Consumer
 consumerOf s at =
     record {
