@@ -9,7 +9,7 @@ use native.Mathlib.Omega.{arith}
 use lib.Dec.{lit<}
 use lib.ListN.{length, getD, length-append, List·getD-append}
 use lib.Seq.{getD-at, getD-append-add}
-use Rattle.rules.specs.Fields.{be, bytesOf, Field, laid, widthOf, joined}
+use Rattle.rules.specs.Fields.{bigEndian, bytesOf, Field, laid, widthOf, joined}
 
 pub length-bytesOf : (w v : ℕ) → length (bytesOf w v) ≡ w
 unfolding bytesOf
@@ -20,24 +20,24 @@ length-bytesOf (suc w) v =
     ∙ add-one w
 
 -- Only the w bytes from a place count.
-pub be-same : (w : ℕ) (s t : List ℕ) (a b : ℕ) → ((i : ℕ) → i < w → getD s (a + i) 0 ≡ getD t (b + i) 0) → be w s a ≡ be w t b
-unfolding be
-be-same zero s t a b h = refl
-be-same (suc w) s t a b h =
-    let e : be w s a ≡ be w t b = be-same w s t a b (λ i l. h i (omega arith)) in
+pub same-bytes : (w : ℕ) (s t : List ℕ) (a b : ℕ) → ((i : ℕ) → i < w → getD s (a + i) 0 ≡ getD t (b + i) 0) → bigEndian w s a ≡ bigEndian w t b
+unfolding bigEndian
+same-bytes zero s t a b h = refl
+same-bytes (suc w) s t a b h =
+    let e : bigEndian w s a ≡ bigEndian w t b = same-bytes w s t a b (λ i l. h i (omega arith)) in
     let x : getD s (a + w) 0 ≡ getD t (b + w) 0 = h w (omega arith) in
     omega arith
 
 -- A figure that fits its width is read again.
-be-bytesOf : (w v : ℕ) (t : List ℕ) → v < 256 ^ w → be w (bytesOf w v ++ t) 0 ≡ v
-unfolding be bytesOf
-be-bytesOf zero v t h = omega arith
-be-bytesOf (suc w) v t h =
+read-written : (w v : ℕ) (t : List ℕ) → v < 256 ^ w → bigEndian w (bytesOf w v ++ t) 0 ≡ v
+unfolding bigEndian bytesOf
+read-written zero v t h = omega arith
+read-written (suc w) v t h =
     let h′ : v < 256 ^ w * 256 = rw (pow-suc 256 w) at h in
     let l : v / 256 < 256 ^ w = div-lt-iff-lt-mul (lit< tt) .1 h′ in
     let e : (bytesOf w (v / 256) ++ (v % 256 ∷ [])) ++ t ≡ bytesOf w (v / 256) ++ (v % 256 ∷ t) = append-assoc (bytesOf w (v / 256)) (v % 256 ∷ []) t in
     rw e
-    (let a : be w (bytesOf w (v / 256) ++ (v % 256 ∷ t)) 0 ≡ v / 256 = be-bytesOf w (v / 256) (v % 256 ∷ t) l in
+    (let a : bigEndian w (bytesOf w (v / 256) ++ (v % 256 ∷ t)) 0 ≡ v / 256 = read-written w (v / 256) (v % 256 ∷ t) l in
     let b : getD (bytesOf w (v / 256) ++ (v % 256 ∷ t)) (0 + w) 0 ≡ v % 256 =
     getD-at (bytesOf w (v / 256)) (v % 256) t 0 (0 + w) (length-bytesOf w (v / 256) ∙ sym (zero-add w)) in
     omega arith)
@@ -56,10 +56,10 @@ pub holds-right : (s : List ℕ) (at : ℕ) (p q : List ℕ) {k : ℕ} → at + 
 holds-right s at p q e h =
     record { byte = λ i l. rw (← e, add-assoc) (h .byte (length p + i) (rw length-append (omega arith)) ∙ getD-append-add p q i 0) }
 
-be-held : (w : ℕ) (s : List ℕ) (at v : ℕ) → v < 256 ^ w → Holds s at (bytesOf w v) → be w s at ≡ v
-be-held w s at v b h =
-    be-same w s (bytesOf w v ++ []) at 0 (λ i l. h .byte i (inside i l) ∙ sym (rw zero-add (List·getD-append (bytesOf w v) [] 0 i (inside i l))))
-    ∙ be-bytesOf w v [] b
+read-held : (w : ℕ) (s : List ℕ) (at v : ℕ) → v < 256 ^ w → Holds s at (bytesOf w v) → bigEndian w s at ≡ v
+read-held w s at v b h =
+    same-bytes w s (bytesOf w v ++ []) at 0 (λ i l. h .byte i (inside i l) ∙ sym (rw zero-add (List·getD-append (bytesOf w v) [] 0 i (inside i l))))
+    ∙ read-written w v [] b
   where
     inside : (i : ℕ) → i < w → i < length (bytesOf w v)
     inside i l = rw length-bytesOf l
@@ -76,13 +76,13 @@ Fit (f ∷ fs) = (f .figure < 256 ^ f .width) × Fit fs
 
 abbrev pub Read : List ℕ → ℕ → ℕ → List Field → Type 0
 Read s at k [] = Unit {0}
-Read s at k (f ∷ fs) = (be (f .width) s (at + k) ≡ f .figure) × Read s at (k + f .width) fs
+Read s at k (f ∷ fs) = (bigEndian (f .width) s (at + k) ≡ f .figure) × Read s at (k + f .width) fs
 
 read-from : (s : List ℕ) (at k : ℕ) (fs : List Field) → Fit fs → Holds s (at + k) (laid fs) → Read s at k fs
 unfolding laid
 read-from s at k [] fit h = tt
 read-from s at k (f ∷ fs) fit h = (
-  be-held (f .width) s (at + k) (f .figure) (fit .0) (holds-left s (at + k) _ _ h),
+  read-held (f .width) s (at + k) (f .figure) (fit .0) (holds-left s (at + k) _ _ h),
   read-from s at (k + f .width) fs (fit .1)
       (holds-right s (at + k) (bytesOf (f .width) (f .figure)) (laid fs) (rw (length-bytesOf, add-assoc)) h),
 )

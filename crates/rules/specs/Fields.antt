@@ -4,9 +4,9 @@ use mathlib.Core.List.{List, [], _∷_, _++_}
 use lib.ListN.{getD}
 
 -- The number in the w bytes of s from place at; a byte past the end counts as 0.
-unfoldable pub be : ℕ → List ℕ → ℕ → ℕ
-be zero s at = 0
-be (suc w) s at = be w s at * 256 + getD s (at + w) 0
+unfoldable pub bigEndian : ℕ → List ℕ → ℕ → ℕ
+bigEndian zero s at = 0
+bigEndian (suc w) s at = bigEndian w s at * 256 + getD s (at + w) 0
 
 -- v in w bytes.
 unfoldable pub bytesOf : ℕ → ℕ → List ℕ

@@ -63,7 +63,7 @@ abbrev withRow : ℕ → ℕ → ℕ → ℕ → Month
 withRow p c volume price = month 28 1 0 (plain ∷ []) (row p c volume price ∷ []) (consumer 0 0 0 0 10 0 ∷ [])
 
 abbrev withConsumer : ℕ → ℕ → ℕ → ℕ → ℕ → ℕ → Month
-withConsumer contract peak t2 t3 z price = month 28 1 0 [] [] (consumer contract peak t2 t3 z price ∷ [])
+withConsumer contract peak supplier grid z price = month 28 1 0 [] [] (consumer contract peak supplier grid z price ∷ [])
 
 abbrev numberOf : Month → ℕ
 numberOf m = firstOf (figureTests m)

@@ -2,7 +2,7 @@
 use Prim.Native.Nat.{ℕ, _+_, _*_}
 use mathlib.Core.List.{List}
 use Rattle.rules.specs.Month.{Header, Producer, Row, Consumer, Month}
-use Rattle.rules.specs.Fields.{be}
+use Rattle.rules.specs.Fields.{bigEndian}
 
 -- The header's width.
 abbrev pub headerWidth : ℕ
@@ -10,22 +10,22 @@ headerWidth = 14
 
 -- The length of the whole sheet, itself included.
 unfoldable pub lengthField : List ℕ → ℕ
-lengthField s = be 4 s 0
+lengthField s = bigEndian 4 s 0
 
 -- The version.
 unfoldable pub version : List ℕ → ℕ
-version s = be 1 s 4
+version s = bigEndian 1 s 4
 
 -- The header's month and counts.
 abbrev pub headerOf : List ℕ → Header
 headerOf s =
     record {
-      days = be 1 s 5;
-      weekday = be 1 s 6;
-      holidays = be 4 s 7;
-      producers = be 1 s 11;
-      rows = be 1 s 12;
-      consumers = be 1 s 13;
+      days = bigEndian 1 s 5;
+      weekday = bigEndian 1 s 6;
+      holidays = bigEndian 4 s 7;
+      producers = bigEndian 1 s 11;
+      rows = bigEndian 1 s 12;
+      consumers = bigEndian 1 s 13;
     }
 
 -- The width of a producer's hours: three powers of 4 bytes in each of 24 × days hours.
@@ -69,38 +69,38 @@ sheetLength h = consumerAt h (h .consumers)
 abbrev pub producerOf : List ℕ → ℕ → (ℕ → ℕ) → Producer
 producerOf s at hour =
     record {
-      attested = be 4 s at;
-      deductible = be 4 s (at + 4);
-      ownNeeds = be 4 s (at + 8);
-      noUpwardBid = be 2 s (at + 12);
-      noDownwardBid = be 2 s (at + 14);
-      noPlan = be 2 s (at + 16);
-      k3 = be 4 s (at + 18);
-      k6 = be 4 s (at + 22);
-      k7 = be 4 s (at + 26);
-      k8 = be 4 s (at + 30);
-      k9 = be 4 s (at + 34);
-      k10 = be 4 s (at + 38);
-      working = λ i. be 4 s (hour i);
-      possible = λ i. be 4 s (hour i + 4);
-      outsideUse = λ i. be 4 s (hour i + 8);
+      attested = bigEndian 4 s at;
+      deductible = bigEndian 4 s (at + 4);
+      ownNeeds = bigEndian 4 s (at + 8);
+      noUpwardBid = bigEndian 2 s (at + 12);
+      noDownwardBid = bigEndian 2 s (at + 14);
+      noPlan = bigEndian 2 s (at + 16);
+      k3 = bigEndian 4 s (at + 18);
+      k6 = bigEndian 4 s (at + 22);
+      k7 = bigEndian 4 s (at + 26);
+      k8 = bigEndian 4 s (at + 30);
+      k9 = bigEndian 4 s (at + 34);
+      k10 = bigEndian 4 s (at + 38);
+      working = λ i. bigEndian 4 s (hour i);
+      possible = λ i. bigEndian 4 s (hour i + 4);
+      outsideUse = λ i. bigEndian 4 s (hour i + 8);
     }
 
 -- The row whose figures begin at a place.
 abbrev pub rowOf : List ℕ → ℕ → Row
 rowOf s at =
-    record { producer = be 1 s at; consumer = be 1 s (at + 1); volume = be 4 s (at + 2); price = be 4 s (at + 6) }
+    record { producer = bigEndian 1 s at; consumer = bigEndian 1 s (at + 1); volume = bigEndian 4 s (at + 2); price = bigEndian 4 s (at + 6) }
 
 -- The consumer whose figures begin at a place.
 abbrev pub consumerOf : List ℕ → ℕ → Consumer
 consumerOf s at =
     record {
-      contract = be 4 s at;
-      peak = be 4 s (at + 4);
-      supplierMining = be 1 s (at + 8);
-      gridMining = be 1 s (at + 9);
-      z = be 1 s (at + 10);
-      price = be 4 s (at + 11);
+      contract = bigEndian 4 s at;
+      peak = bigEndian 4 s (at + 4);
+      supplierMining = bigEndian 1 s (at + 8);
+      gridMining = bigEndian 1 s (at + 9);
+      z = bigEndian 1 s (at + 10);
+      price = bigEndian 4 s (at + 11);
     }
 
 -- The month that a sheet states.

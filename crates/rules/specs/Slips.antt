@@ -223,7 +223,7 @@ rowFigures =
 
 -- One consumer without a credit, in a month of 30 days.
 unfoldable pub peakMonth : ℕ → ℕ → ℕ → ℕ → ℕ → ℕ → Month
-peakMonth contract peak t2 t3 z price = month 30 1 0 [] [] (consumer contract peak t2 t3 z price ∷ [])
+peakMonth contract peak supplier grid z price = month 30 1 0 [] [] (consumer contract peak supplier grid z price ∷ [])
 
 abbrev peakVolume : ℕ → ℕ → ℕ
 peakVolume contract peak = volume (peakMonth contract peak 0 0 10 0) 0

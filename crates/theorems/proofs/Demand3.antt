@@ -8,11 +8,11 @@ use lib.Seq.{getD-take}
 use borrow.Author.Tests.{eq-eqb}
 use Rattle.rules.specs.Month.{Header, Month}
 use Rattle.rules.specs.Limits.{MonthLimits}
-use Rattle.rules.specs.Fields.{be}
+use Rattle.rules.specs.Fields.{bigEndian}
 use Rattle.rules.specs.Sheet.{headerWidth, headerOf, monthOf}
 use Rattle.rules.specs.Result.{readRow, readConsumer, readTotals, rowFigures, consumerFigures, totalFigures, resultLength, resultOf}
 use Rattle.rules.specs.Outcome.{Accepted, bufferAfter}
-use Rattle.laws.proofs.Fields.{be-same, Holds, holds-front}
+use Rattle.laws.proofs.Fields.{same-bytes, Holds, holds-front}
 use Rattle.laws.proofs.Refusals.{limits}
 use Rattle.laws.proofs.Cut.{cut-le-volume}
 use Rattle.laws.proofs.Rows.{actual-le-cut}
@@ -21,8 +21,8 @@ use Rattle.theorems.proofs.ReadBack.{row-read, consumer-read, totals-re
 use Rattle.theorems.proofs.Months as Months
 
 -- A field within the first n bytes is the same where those are.
-front-same : (n w at : ℕ) (s t : List ℕ) → take n s ≡ take n t → at + w ≤ n → be w s at ≡ be w t at
-front-same n w at s t e l = be-same w s t at at (λ i q. byte i (omega arith))
+front-same : (n w at : ℕ) (s t : List ℕ) → take n s ≡ take n t → at + w ≤ n → bigEndian w s at ≡ bigEndian w t at
+front-same n w at s t e l = same-bytes w s t at at (λ i q. byte i (omega arith))
   where
     byte : (i : ℕ) → at + i < n → getD s (at + i) 0 ≡ getD t (at + i) 0
     byte i q = sym (getD-take n s (at + i) 0 q) ∙ ap (λ (x : List ℕ). getD x (at + i) 0) e ∙ getD-take n t (at + i) 0 q
