@@ -9,12 +9,12 @@ use Rattle.rules.specs.Samples.{producer, row, consumer, month, every, k
 use Rattle.rules.specs.Open.{settlement}
 use mathlib.Core.Path.{_≡_, refl}
 
--- One consumer with DO and a peak: T'' = T''' = 0, z 10, no credit, in a month of 30 days.
+-- One consumer of given DO and peak in a month of 30 days, without credit or mining days, z 1.0.
 unfoldable pub consumerMonth : ℕ → ℕ → Month
 consumerMonth contract peak = month 30 1 0 [] [] (consumer contract peak 0 0 10 0 ∷ [])
 
--- One producer with attested capacity and outside use: 30 days, one support row of 100.0, deductible 10.0, own needs 0,
--- every hour possible 110.0 and working 99.0, 72 hours without upward and 36 without downward bids, all else full.
+-- One producer of given attested capacity and outside use in a month of 30 days, with a support row of 100.0 MW and deductible 10.0; possible
+-- power is 110.0 and working power 99.0 throughout; upward bids lack in 72 hours, downward bids in 36; nothing else is missing.
 unfoldable pub producerMonth : ℕ → ℕ → Month
 producerMonth attested outside =
     month 30 1 0

@@ -1,5 +1,5 @@
--- Control hours: 17:00 to 23:00, Monday to Friday, holidays excepted. Days are counted from 0 here, day 1 of the month being 0, and
--- hours run through the month.
+-- Control hours: the evening hours of working days over which outside use is averaged. Days are counted from 0 here, day 1 of the month
+-- being 0, and hours run through the month.
 use Prim.Native.Nat.{ℕ, zero, suc, _+_, _/_, _%_, _^_}
 use mathlib.Core.Bool.{Bool, not, _&&_}
 use lib.Dec.{leb, eqb}
@@ -19,7 +19,7 @@ holidayOn h day = eqb (h .holidays / 2 ^ day % 2) 1
 unfoldable pub controlDay : Header → ℕ → Bool
 controlDay h day = leb (weekdayOn h day) 5 && not (holidayOn h day)
 
--- A control hour: hours 17 to 22 of a control day. Hour 23 is none. [Control hours; p. 2, 4)]
+-- A control hour: one of the six hours 17 to 22 of a control day. [Control hours; p. 2, 4)]
 unfoldable pub controlHour : Header → ℕ → Bool
 controlHour h hour = leb 17 (hour % 24) && leb (hour % 24) 22 && controlDay h (hour / 24)
 

@@ -46,7 +46,7 @@ summedCapacity m p = supportVolume m p + bilateralVolume m p + m .producer p .de
 unfoldable pub excess : Month → ℕ → ℕ
 excess m p = summedCapacity m p - m .producer p .ownNeeds - m .producer p .attested
 
--- What is left of producer p's excess when row j's turn comes: its rows before j gave as much as they had. [Cut]
+-- What is left of producer p's excess when row j's turn comes: its rows before j have yielded all they could. [Cut]
 unfoldable pub leftToCut : Month → ℕ → ℕ → ℕ
 leftToCut m p j = excess m p - sum (ownVolume m p) j
 
@@ -54,7 +54,7 @@ leftToCut m p j = excess m p - sum (ownVolume m p) j
 unfoldable pub afterCut : Month → ℕ → ℕ
 afterCut m j = m .row j .volume - leftToCut m (m .row j .producer) j
 
--- The same cut as it is told, row by row: of volumes in order each gives as much as it has, until the excess is used up. [Cut]
+-- The same cut as it is told, row by row: each volume in its turn yields what it can, until nothing is left to cut. [Cut]
 -- (row-by-row, in laws/Cut, shows that the volumes after the cut are these.)
 unfoldable pub cutInOrder : ℕ → List ℕ → List ℕ
 cutInOrder left [] = []

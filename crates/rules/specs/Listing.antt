@@ -1,5 +1,5 @@
--- The example of document 01, Listing, as bytes: the sheet with no producer or row and one consumer of DO 100.0, peak 126.0,
--- T'' = T''' = 0, z 10, price 100,000 tiyn; and its result.
+-- The example of document 01, Listing, as bytes: a sheet that holds a single consumer (DO 100.0, peak 126.0, no mining days, z 1.0, at
+-- 1,000 tenge), and its result.
 use Prim.Native.Nat.{ℕ}
 use mathlib.Core.List.{List, [], _∷_, _++_}
 use lib.ListN.{replicate}

@@ -34,7 +34,7 @@ pub record Stretch : Type 0 where
   pub place : ℕ
   pub bytes : ℕ
 
--- The stretch that holds producer p's hours; an empty one for a sheet turned down by 1 to 6, or a producer not below P.
+-- The stretch with the hours of producer p. It is empty where a number from 1 to 6 applies, and where the sheet has no producer p.
 -- [Units and the sheet]
 unfoldable pub hoursStretch : List ℕ → ℕ → Stretch
 hoursStretch s p =

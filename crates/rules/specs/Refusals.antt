@@ -1,4 +1,4 @@
--- Refusals: numbers 1 to 12, each tried over the whole sheet before the next, and the first that applies.
+-- Refusals: the numbers 1 to 12 as tests in their order, each of the whole sheet, and the number of the first that applies.
 -- [When a sheet is turned down, throughout; the number stands before each test]
 use Prim.Native.Nat.{ℕ, _/_, _^_}
 use mathlib.Core.Bool.{Bool, false, not, cond, _||_, _&&_}
@@ -16,7 +16,7 @@ unfoldable pub oneOf : List Bool → Bool
 oneOf [] = false
 oneOf (test ∷ tests) = test || oneOf tests
 
--- 4: days are not 28 to 31, or the weekday is not 1 to 7, or a holiday bit stands at or above the number of days.
+-- 4: no month has so many days, no weekday that number, or a day past the month's end is marked as a holiday.
 unfoldable pub badMonth : Header → Bool
 badMonth h =
     oneOf
@@ -27,11 +27,11 @@ badMonth h =
     ∷ ltb 0 (h .holidays / 2 ^ h .days)
     ∷ [])
 
--- 5: P is above 6, or R or C above 32.
+-- 5: more than 6 producers, 32 rows or 32 consumers.
 unfoldable pub tooMany : Header → Bool
 tooMany h = oneOf (ltb 6 (h .producers) ∷ ltb 32 (h .rows) ∷ ltb 32 (h .consumers) ∷ [])
 
--- 8: a count of hours is above H, or a given coefficient above 1.
+-- 8: a producer lacks bids or plans for more hours than there are, or a coefficient given for it exceeds 1.
 unfoldable pub badShare : Header → Producer → Bool
 badShare h p =
     oneOf
@@ -46,7 +46,7 @@ badShare h p =
     ∷ ltb one (p .k10)
     ∷ [])
 
--- 9: a capacity figure is above the ceiling of tenths.
+-- 9: a capacity, power, volume or peak exceeds the ceiling of tenths.
 unfoldable pub tooHigh : ℕ → Bool
 tooHigh tenths = ltb tenthsCeiling tenths
 
@@ -73,7 +73,7 @@ highRow r = tooHigh (r .volume)
 unfoldable pub highConsumer : Consumer → Bool
 highConsumer c = oneOf (tooHigh (c .contract) ∷ tooHigh (c .peak) ∷ [])
 
--- 10: a row's producer is not below P, or its consumer is neither 255 nor below C.
+-- 10: a row names a producer or a consumer that the sheet does not have. The single buyer, 255, may always be named.
 unfoldable pub badReference : Header → Row → Bool
 badReference h r =
     oneOf
@@ -81,11 +81,11 @@ badReference h r =
     ∷ (not (eqb (r .consumer) 255) && leb (h .consumers) (r .consumer))
     ∷ [])
 
--- 11: a price is above the ceiling of tiyn.
+-- 11: a price exceeds the ceiling of tiyn.
 unfoldable pub tooDear : ℕ → Bool
 tooDear price = ltb tiynCeiling price
 
--- 12: T'' or T''' is above days, or z is outside 10 to 100.
+-- 12: more mining days than the month has days, or z is below 1.0 or above 10.0.
 unfoldable pub badFactor : Header → Consumer → Bool
 badFactor h c =
     oneOf
@@ -115,8 +115,8 @@ pub record Test : Type 0 where
 abbrev pub test : ℕ → Bool → Test
 test number applies = record { number = number; applies = applies }
 
--- 1 to 6: fewer than 14 bytes; the length field is not the number of bytes; the version is not 1; the month; the counts;
--- the length is not the one that month and counts ask for.
+-- 1 to 6, the form: no whole header; a length field that is wrong about the bytes; another version; the month; the counts; a length
+-- other than month and counts ask for.
 unfoldable pub formTests : List ℕ → List Test
 formTests s =
     test 1 (ltb (length s) headerWidth)
@@ -127,7 +127,7 @@ formTests s =
     ∷ test 6 (not (eqb (lengthField s) (sheetLength (headerOf s))))
     ∷ []
 
--- 7: the result buffer has less room than the result needs.
+-- 7, the room: the result does not fit into the result buffer.
 unfoldable pub roomTests : Header → ℕ → List Test
 roomTests h room = test 7 (ltb room (resultLength h)) ∷ []
 

@@ -7,8 +7,8 @@ use Rattle.rules.specs.Month.{Header, Producer, Consumer, Month, hours}
 use Rattle.rules.specs.Sheet.{headerWidth, monthOf}
 use Rattle.rules.specs.Result.{readRow, readConsumer, readTotals}
 
--- The second producer is alike, or worse in this: attested capacity, working powers and given coefficients may be lower,
--- outside-use readings and missing-hour counts higher.
+-- The second producer is the first, or worse: with less attested capacity, less working power in an hour, a lower given coefficient,
+-- more outside use in an hour, or more hours without a bid or a plan. All else is the same.
 pub record WorseProducer (hours : ℕ) (p p′ : Producer) : Type 0 where
   pub attested : p′ .attested ≤ p .attested
   pub deductible : p′ .deductible ≡ p .deductible
@@ -26,7 +26,7 @@ pub record WorseProducer (hours : ℕ) (p p′ : Producer) : Type 0 where
   pub possible : (i : ℕ) → i < hours → p′ .possible i ≡ p .possible i
   pub outsideUse : (i : ℕ) → i < hours → p .outsideUse i ≤ p′ .outsideUse i
 
--- The second consumer is alike, or worse in this: peak, mining-day counts and z may be higher.
+-- The second consumer is the first, or worse: with a higher peak, more mining days, or a higher z. All else is the same.
 pub record WorseConsumer (c c′ : Consumer) : Type 0 where
   pub contract : c′ .contract ≡ c .contract
   pub peak : c .peak ≤ c′ .peak
@@ -35,19 +35,19 @@ pub record WorseConsumer (c c′ : Consumer) : Type 0 where
   pub z : c .z ≤ c′ .z
   pub price : c′ .price ≡ c .price
 
--- Each producer and consumer is alike or worse in the second month, in any number of places at once or in none; each row is the same.
+-- Every producer and consumer of the second month is that of the first, or worse; every row is the same.
 pub record Worse (m m′ : Month) : Type 0 where
   pub producer : (p : ℕ) → p < m .header .producers → WorseProducer (hours (m .header)) (m .producer p) (m′ .producer p)
   pub row : (j : ℕ) → j < m .header .rows → m′ .row j ≡ m .row j
   pub consumer : (c : ℕ) → c < m .header .consumers → WorseConsumer (m .consumer c) (m′ .consumer c)
 
--- Two sheets with the same header, of which the second is alike or worse.
+-- Two sheets with the same header, the second of a month that is the same or worse.
 pub record WorseSheet (s s′ : List ℕ) : Type 0 where
   pub header : take headerWidth s′ ≡ take headerWidth s
   pub figures : Worse (monthOf s) (monthOf s′)
 
--- The second result pays no more and charges no less, each figure as it is read from the result's bytes:
--- no row has a larger actual volume or payment, no consumer a smaller actual volume or charge, total paid is no larger, total charged no smaller.
+-- The second result pays no producer more and charges no consumer less, in any row, for any consumer, or in all. Each figure is the one
+-- that is read from the result's bytes at its place.
 pub record NoBetter (h : Header) (out out′ : List ℕ) : Type 0 where
   pub row-actual : (j : ℕ) → j < h .rows → readRow out′ j .actual ≤ readRow out j .actual
   pub row-payment : (j : ℕ) → j < h .rows → readRow out′ j .payment ≤ readRow out j .payment
@@ -56,7 +56,7 @@ pub record NoBetter (h : Header) (out out′ : List ℕ) : Type 0 where
   pub total-paid : readTotals h out′ .paid ≤ readTotals h out .paid
   pub total-charged : readTotals h out .charged ≤ readTotals h out′ .charged
 
--- Each row's actual volume is at most its volume after the cut, which is at most the volume that the sheet gives the row.
+-- Every row of a result: actual volume ≤ volume after the cut ≤ the volume that the sheet states.
 pub record OnlyCut (s out : List ℕ) : Type 0 where
   pub actual : (j : ℕ) → j < monthOf s .header .rows → readRow out j .actual ≤ readRow out j .afterCut
   pub after-cut : (j : ℕ) → j < monthOf s .header .rows → readRow out j .afterCut ≤ monthOf s .row j .volume
