@@ -296,16 +296,13 @@ creditFigures =
     -- actual volumes 30.0, 250.0, 10.05 rounded 10.1, 200.0; the support row credits nobody
     figure (credit creditMonth 0) 2000
     ∷ figure (credit creditMonth 1) 401
-    -- the credit is above the first peak: counted 0, DO is paid
+    -- the first credit is above the peak: counted peak 0, DO is paid; the second leaves 150.1 - 40.1 = 110.0, so Do 5.0 and p 50
     ∷ figure (countedPeak creditMonth 0) 0
-    ∷ figure (volume creditMonth 0) 1000
-    -- 150.1 - 40.1 = 110.0, so Do 5.0 and p 50
-    ∷ figure (countedPeak creditMonth 1) 1100
     ∷ figure (percent creditMonth 1) 50
-    ∷ figure (volume creditMonth 1) 1000
-    -- paid: 30 × 100 + 250 × 200 + 10.1 × 300 + 200 × 400 = 3,000 + 50,000 + 3,030 + 80,000; charged: 100 × 100, twice
+    -- paid: 30 × 100 + 250 × 200 + 10.1 × 300 + 200 × 400 = 3,000 + 50,000 + 3,030 + 80,000
     ∷ figure (totalPaid creditMonth) 136030
-    ∷ figure (totalCharged creditMonth) 20000
+    -- charged, to two consumers without a credit: 100 × 100 and 200 × 300
+    ∷ figure (totalCharged (month 30 1 0 [] [] (consumer 1000 0 0 0 10 100 ∷ consumer 2000 0 0 0 10 300 ∷ []))) 70000
     ∷ []
 
 unfoldable pub slips : List Figure
