@@ -2,9 +2,10 @@
 use Prim.Native.Nat.{ℕ}
 use mathlib.Core.Path.{_≡_}
 use mathlib.Core.Bool.{cond, _&&_}
-use mathlib.Core.List.{List, _++_}
+use mathlib.Core.List.{List}
 use lib.ListN.{length, take, drop}
 use lib.Dec.{eqb, ltb}
+use Rattle.rules.specs.Fields.{over}
 use Rattle.rules.specs.Sheet.{headerOf, monthOf, hourAt, hoursWidth}
 use Rattle.rules.specs.Result.{resultLength, resultOf}
 use Rattle.rules.specs.Refusals.{formTests, firstOf, refusal}
@@ -27,7 +28,7 @@ outcome s room =
 -- [Result; When a sheet is turned down]
 unfoldable pub bufferAfter : List ℕ → List ℕ → List ℕ
 bufferAfter s out =
-    cond (eqb (refusal s (length out)) 0) (resultOf (monthOf s) ++ drop (resultLength (headerOf s)) out) out
+    cond (eqb (refusal s (length out)) 0) (over (resultOf (monthOf s)) out) out
 
 -- A stretch of a sheet: its place and its length. [Units and the sheet]
 pub record Stretch : Type 0 where

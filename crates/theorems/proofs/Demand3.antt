@@ -8,9 +8,9 @@ use lib.Seq.{getD-take}
 use borrow.Author.Tests.{eq-eqb}
 use Rattle.rules.specs.Month.{Header, Month}
 use Rattle.rules.specs.Limits.{MonthLimits}
-use Rattle.rules.specs.Fields.{bigEndian}
+use Rattle.rules.specs.Fields.{bigEndian, over}
 use Rattle.rules.specs.Sheet.{headerWidth, headerOf, monthOf}
-use Rattle.rules.specs.Result.{readRow, readConsumer, readTotals, rowFigures, consumerFigures, totalFigures, resultLength, resultOf}
+use Rattle.rules.specs.Result.{readRow, readConsumer, readTotals, rowFigures, consumerFigures, totalFigures, resultOf}
 use Rattle.rules.specs.Outcome.{Accepted, bufferAfter}
 use Rattle.laws.proofs.Fields.{same-bytes, Holds, holds-front}
 use Rattle.laws.proofs.Refusals.{limits}
@@ -40,8 +40,8 @@ same-header s s′ e =
 
 -- The buffer after an accepted sheet begins with the result.
 pub begins : (s out : List ℕ) → Accepted s (length out) → Holds (bufferAfter s out) 0 (resultOf (monthOf s))
-unfolding bufferAfter
-begins s out a = rw (eq-eqb _ _ a) (holds-front (resultOf (monthOf s)) (drop (resultLength (headerOf s)) out))
+unfolding bufferAfter over
+begins s out a = rw (eq-eqb _ _ a) (holds-front (resultOf (monthOf s)) (drop (length (resultOf (monthOf s))) out))
 
 -- The last sentence of demand 3.
 pub only-cut : (s out : List ℕ) → Accepted s (length out) → OnlyCut s (bufferAfter s out)

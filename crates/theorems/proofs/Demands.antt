@@ -7,6 +7,7 @@ use lib.ListN.{length, drop}
 use borrow.Author.Tests.{eq-eqb, ne-eqb, lt-ltb}
 use Rattle.rules.specs.Month.{Consumer}
 use Rattle.rules.specs.Limits.{SheetLimits}
+use Rattle.rules.specs.Fields.{over}
 use Rattle.rules.specs.Sheet.{headerOf, monthOf, hoursWidth, hourAt}
 use Rattle.rules.specs.Cut.{excess, afterCut, cutInOrder, ownRows}
 use Rattle.rules.specs.Consumers.{volumeOf}
@@ -55,8 +56,8 @@ module _ (s out : List ℕ) where
   accepted-outcome a = rw (eq-eqb _ _ a, ReadBack.result-length (monthOf s))
 
   pub accepted-result : Accepted s (length out) → bufferAfter s out ≡ resultOf (monthOf s) ++ drop (length (resultOf (monthOf s))) out
-  unfolding bufferAfter
-  accepted-result a = rw (eq-eqb _ _ a, ReadBack.result-length (monthOf s))
+  unfolding bufferAfter over
+  accepted-result a = rw (eq-eqb _ _ a)
 
   -- The result has the stated length.
   pub result-length : length (resultOf (monthOf s)) ≡ resultLength (headerOf s)
