@@ -5,7 +5,8 @@ use Prim.Native.Nat.{ℕ, zero, suc, zero-le, _*_, _≤_}
 use native.Mathlib.Nat.{le-refl, sub-le}
 use native.Mathlib.Omega.{arith}
 use Rattle.rules.specs.Units.{one}
-use Rattle.rules.specs.Month.{Header, Producer, hours}
+use Rattle.rules.specs.declared.Header.{Header}
+use Rattle.rules.specs.Month.{Producer, hours}
 use Rattle.rules.specs.Limits.{ProducerLimits}
 use Rattle.rules.specs.Coefficients.{share, penalty, lessPenalty, k1, k2, asked, met, k4, k5, inOrder}
 use Rattle.laws.proofs.Range.{sum-mono}

@@ -2,13 +2,13 @@
 use mathlib.Core.Path.{_≡_, refl, sym, ap, _∙_}
 use mathlib.Core.List.{List, [], _∷_, _++_, append-assoc}
 use mathlib.Core.Logic.{⊎-elim}
-use Prim.Native.Nat.{ℕ, zero, suc, _+_, _*_, _/_, _%_, _^_, _<_}
-use native.Mathlib.Nat.{add-assoc, add-zero, zero-add, pow-suc, div-lt-iff-lt-mul, eq-or-lt-of-le, le-of-suc-le-suc}
+use Prim.Native.Nat.{ℕ, zero, suc, _+_, _*_, _/_, _%_, _^_, _≤_, _<_}
+use native.Mathlib.Nat.{add-suc, mul-assoc, add-assoc, add-zero, zero-add, pow-suc, div-lt-iff-lt-mul, eq-or-lt-of-le, le-of-suc-le-suc}
 use native.Mathlib.Numerals.{add-one}
 use native.Mathlib.Omega.{arith}
 use lib.Dec.{lit<}
-use lib.ListN.{length, getD, length-append, List·getD-append}
-use lib.Seq.{getD-at, getD-append-add}
+use lib.ListN.{length, getD, drop, length-append, List·getD-append, List·getD-eq-default}
+use lib.Seq.{getD-at, getD-drop, getD-append-add}
 use Rattle.rules.specs.Fields.{bigEndian, bytesOf, Field, laid, widthOf, joined}
 
 pub length-bytesOf : (w v : ℕ) → length (bytesOf w v) ≡ w
@@ -27,6 +27,26 @@ same-bytes (suc w) s t a b h =
     let e : bigEndian w s a ≡ bigEndian w t b = same-bytes w s t a b (λ i l. h i (omega arith)) in
     let x : getD s (a + w) 0 ≡ getD t (b + w) 0 = h w (omega arith) in
     omega arith
+
+-- Past the end there is nothing to read.
+pub read-past : (w : ℕ) (s : List ℕ) (at : ℕ) → length s ≤ at → bigEndian w s at ≡ 0
+unfolding bigEndian
+read-past zero s at h = refl
+read-past (suc w) s at h = omega (arith, read-past w s at h, List·getD-eq-default s 0 {n = at + w} (omega arith))
+
+-- A field of m + n bytes is one of m bytes and then one of n.
+pub read-joined : (m n : ℕ) (s : List ℕ) (at : ℕ) → bigEndian (m + n) s at ≡ bigEndian m s at * 256 ^ n + bigEndian n s (at + m)
+unfolding bigEndian
+read-joined m zero s at = ap (λ (w : ℕ). bigEndian w s at) (add-zero m) ∙ omega arith
+read-joined m (suc n) s at =
+    let e : bigEndian (m + n) s at ≡ bigEndian m s at * 256 ^ n + bigEndian n s (at + m) = read-joined m n s at in
+    rw (add-suc, ← (add-assoc at m n), pow-suc, ← (mul-assoc (bigEndian m s at) (256 ^ n) 256)) (omega arith)
+
+-- A field of a part that starts at n.
+pub read-drop : (w n : ℕ) (s : List ℕ) (at : ℕ) → bigEndian w (drop n s) at ≡ bigEndian w s (n + at)
+unfolding bigEndian
+read-drop zero n s at = refl
+read-drop (suc w) n s at = simp (read-drop w n s at, getD-drop, add-assoc)
 
 -- A figure that fits its width is read again.
 read-written : (w v : ℕ) (t : List ℕ) → v < 256 ^ w → bigEndian w (bytesOf w v ++ t) 0 ≡ v

@@ -11,7 +11,10 @@ use lib.Dec.{T, leb, ltb, eqb, leb→le}
 use lib.Ieee.Fits.{and-l, and-r}
 use Rattle.rules.specs.Range.{any}
 use Rattle.rules.specs.Units.{tenthsCeiling, tiynCeiling}
-use Rattle.rules.specs.Month.{Header, Producer, Row, Consumer, Month, hours}
+use Rattle.rules.specs.declared.Header.{Header}
+use Rattle.rules.specs.declared.Row.{Row}
+use Rattle.rules.specs.declared.Consumer.{Consumer}
+use Rattle.rules.specs.Month.{Producer, Month, hours}
 use Rattle.rules.specs.Sheet.{headerOf, monthOf}
 use Rattle.rules.specs.Result.{resultLength}
 use Rattle.rules.specs.Refusals.{oneOf, badMonth, tooMany, badShare, tooHigh, highHour, highProducer, highRow, highConsumer, badReference, tooDear, badFactor, Test, formTests, roomTests, figureTests, tests, applies, firstOf, refusal}
@@ -239,8 +242,8 @@ module _ (h : Header) where
         contract = high-clear _ (a .0);
         peak = high-clear _ (a .1 .0);
         price = dear-clear _ e11;
-        supplierMining = ltb-false _ _ (b .0);
-        gridMining = ltb-false _ _ (b .1 .0);
+        supplier = ltb-false _ _ (b .0);
+        grid = ltb-false _ _ (b .1 .0);
         z-from = ltb-false _ _ (b .1 .1 .0);
         z-to = ltb-false _ _ (b .1 .1 .1 .0);
       }
@@ -253,8 +256,8 @@ module _ (h : Header) where
   unfolding badFactor
   factor-clear c l =
       all-fail _ (
-        le-ltb _ _ (l .supplierMining),
-        (le-ltb _ _ (l .gridMining), (le-ltb _ _ (l .z-from), (le-ltb _ _ (l .z-to), tt))),
+        le-ltb _ _ (l .supplier),
+        (le-ltb _ _ (l .grid), (le-ltb _ _ (l .z-from), (le-ltb _ _ (l .z-to), tt))),
       )
 
 -- Numbers 1 to 6, from their tests and back.

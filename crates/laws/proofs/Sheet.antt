@@ -3,7 +3,7 @@ use mathlib.Core.Path.{_≡_}
 use Prim.Native.Nat.{ℕ, _+_, _*_, _≤_, _<_}
 use native.Mathlib.Nat.{mul-le-mul-right}
 use native.Mathlib.Omega.{arith}
-use Rattle.rules.specs.Month.{Header}
+use Rattle.rules.specs.declared.Header.{Header}
 use Rattle.rules.specs.Sheet.{hoursWidth, producerAt, hourAt, rowAt, consumerAt, sheetLength}
 
 -- Number 6's length, in document 01's words.

@@ -49,8 +49,8 @@ pub record ConsumerLimits (h : Header) (c : Consumer) : Type 0 where
   pub contract : c .contract ≤ tenthsCeiling
   pub peak : c .peak ≤ tenthsCeiling
   pub price : c .price ≤ tiynCeiling
-  pub supplierMining : c .supplierMining ≤ h .days
-  pub gridMining : c .gridMining ≤ h .days
+  pub supplier : c .supplier ≤ h .days
+  pub grid : c .grid ≤ h .days
   pub z-from : 10 ≤ c .z
   pub z-to : c .z ≤ 100
 

@@ -2,17 +2,11 @@
 -- Capacities, powers, volumes and peaks are in tenths of a megawatt, coefficients in millionths, prices in tiyn per megawatt and month.
 -- Where a figure stands among the sheet's bytes is said in Sheet and nowhere else.
 use Prim.Native.Nat.{ℕ, _*_}
-
--- The header's month and counts: P producers, R rows, C consumers. [Units and the sheet, Header]
-pub record Header : Type 0 where
-  pub days : ℕ
-  -- weekday of day 1, Monday 1 to Sunday 7
-  pub weekday : ℕ
-  -- a bit for each day, the lowest for day 1
-  pub holidays : ℕ
-  pub producers : ℕ
-  pub rows : ℕ
-  pub consumers : ℕ
+-- The header's month and counts, a contract row, a consumer: the structs Header, Row and Consumer of src/lib.rt, which code shares.
+-- [Units and the sheet, Header, Rows, Consumers; p. 59]
+pub use Rattle.rules.specs.declared.Header.{Header}
+pub use Rattle.rules.specs.declared.Row.{Row}
+pub use Rattle.rules.specs.declared.Consumer.{Consumer}
 
 -- A producer: attested capacity, deductible capacity, greatest own needs; hours without an upward bid, without a downward bid, without a
 -- plan; the given coefficients; and for each hour of the month working, possible and outside-use power.
@@ -33,23 +27,6 @@ pub record Producer : Type 0 where
   pub working : ℕ → ℕ
   pub possible : ℕ → ℕ
   pub outsideUse : ℕ → ℕ
-
--- A contract row. Its consumer is 255 for the single buyer. [Units and the sheet, Rows]
-pub record Row : Type 0 where
-  pub producer : ℕ
-  pub consumer : ℕ
-  pub volume : ℕ
-  pub price : ℕ
-
--- A consumer: contract volume DO, peak, mining days of the supplier T'' and of the grid company T''', z in tenths, price.
--- [Units and the sheet, Consumers; p. 59]
-pub record Consumer : Type 0 where
-  pub contract : ℕ
-  pub peak : ℕ
-  pub supplierMining : ℕ
-  pub gridMining : ℕ
-  pub z : ℕ
-  pub price : ℕ
 
 -- The month: its header, and each producer, row and consumer by its place. [Units and the sheet]
 pub record Month : Type 0 where

@@ -70,14 +70,14 @@ readings =
     ∷ figure (m .row 1 .price) 24
     ∷ figure (m .consumer 0 .contract) 25
     ∷ figure (m .consumer 0 .peak) 26
-    ∷ figure (m .consumer 0 .supplierMining) 27
-    ∷ figure (m .consumer 0 .gridMining) 28
+    ∷ figure (m .consumer 0 .supplier) 27
+    ∷ figure (m .consumer 0 .grid) 28
     ∷ figure (m .consumer 0 .z) 29
     ∷ figure (m .consumer 0 .price) 30
     ∷ figure (m .consumer 1 .contract) 31
     ∷ figure (m .consumer 1 .peak) 32
-    ∷ figure (m .consumer 1 .supplierMining) 33
-    ∷ figure (m .consumer 1 .gridMining) 34
+    ∷ figure (m .consumer 1 .supplier) 33
+    ∷ figure (m .consumer 1 .grid) 34
     ∷ figure (m .consumer 1 .z) 35
     ∷ figure (m .consumer 1 .price) 36
     ∷ []

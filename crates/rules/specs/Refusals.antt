@@ -89,8 +89,8 @@ tooDear price = ltb tiynCeiling price
 unfoldable pub badFactor : Header → Consumer → Bool
 badFactor h c =
     oneOf
-    (ltb (h .days) (c .supplierMining)
-    ∷ ltb (h .days) (c .gridMining)
+    (ltb (h .days) (c .supplier)
+    ∷ ltb (h .days) (c .grid)
     ∷ ltb (c .z) 10
     ∷ ltb 100 (c .z)
     ∷ [])

@@ -37,7 +37,7 @@ row p c volume price = record { producer = p; consumer = c; volume = volume; pri
 -- Contract volume, peak, T'', T''', z, price.
 abbrev pub consumer : ℕ → ℕ → ℕ → ℕ → ℕ → ℕ → Consumer
 consumer contract peak supplier grid z price =
-    record { contract = contract; peak = peak; supplierMining = supplier; gridMining = grid; z = z; price = price }
+    record { contract = contract; peak = peak; supplier = supplier; grid = grid; z = z; price = price }
 
 -- Days, weekday of day 1, holidays; the producers, rows and consumers.
 unfoldable pub month : ℕ → ℕ → ℕ → List Producer → List Row → List Consumer → Month

@@ -97,8 +97,8 @@ consumerOf s at =
     record {
       contract = bigEndian 4 s at;
       peak = bigEndian 4 s (at + 4);
-      supplierMining = bigEndian 1 s (at + 8);
-      gridMining = bigEndian 1 s (at + 9);
+      supplier = bigEndian 1 s (at + 8);
+      grid = bigEndian 1 s (at + 9);
       z = bigEndian 1 s (at + 10);
       price = bigEndian 4 s (at + 11);
     }

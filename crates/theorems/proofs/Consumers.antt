@@ -3,7 +3,9 @@ use mathlib.Core.Path.{_≡_, refl, sym, ap}
 use Prim.Native.Nat.{ℕ, _-_, _*_, _≤_}
 use native.Mathlib.Nat.{le-refl, le-of-eq, add-le-add, mul-le-mul}
 use native.Mathlib.Omega.{arith}
-use Rattle.rules.specs.Month.{Header, Consumer, Month}
+use Rattle.rules.specs.declared.Header.{Header}
+use Rattle.rules.specs.declared.Consumer.{Consumer}
+use Rattle.rules.specs.Month.{Month}
 use Rattle.rules.specs.Consumers.{credit, countedPeak, overContract, percentOf, bracket, mining, volumeOf, volume, charge}
 use Rattle.laws.proofs.Units.{rounded-mono, money-mono}
 use Rattle.theorems.specs.Demand3.{WorseConsumer}
@@ -30,7 +32,7 @@ volume-of-mono {days} c c′ e w h =
     rw (e, w .contract)
     (rounded-mono (200 * days * days * 10)
     (mul-le-mul
-    (mul-le-mul (mul-le-mul (bracket-mono (c .contract) h) (mining-mono days (w .supplierMining))) (mining-mono days (w .gridMining)))
+    (mul-le-mul (mul-le-mul (bracket-mono (c .contract) h) (mining-mono days (w .supplier))) (mining-mono days (w .grid)))
     (w .z)))
 
 -- The exam's last part: no higher counted peak ever gives a lower volume.
@@ -38,7 +40,7 @@ pub exam : (days : ℕ) (c : Consumer) {x y : ℕ} → x ≤ y → volumeOf days
 exam days c h = volume-of-mono c c refl alike h
   where
     alike : WorseConsumer c c
-    alike = record { contract = refl; peak = le-refl _; supplierMining = le-refl _; gridMining = le-refl _; z = le-refl _; price = refl }
+    alike = record { contract = refl; peak = le-refl _; supplier = le-refl _; grid = le-refl _; z = le-refl _; price = refl }
 
 -- In a month: a worse consumer with no larger credit.
 module _ (m m′ : Month) (e : m′ .header ≡ m .header) (c : ℕ) (w : WorseConsumer (m .consumer c) (m′ .consumer c)) (less : credit m′ c ≤ credit m c) where

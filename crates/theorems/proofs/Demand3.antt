@@ -6,7 +6,8 @@ use native.Mathlib.Omega.{arith}
 use lib.ListN.{length, take, drop, getD}
 use lib.Seq.{getD-take}
 use borrow.Author.Tests.{eq-eqb}
-use Rattle.rules.specs.Month.{Header, Month}
+use Rattle.rules.specs.declared.Header.{Header}
+use Rattle.rules.specs.Month.{Month}
 use Rattle.rules.specs.Limits.{MonthLimits}
 use Rattle.rules.specs.Fields.{bigEndian, over}
 use Rattle.rules.specs.Sheet.{headerWidth, headerOf, monthOf}

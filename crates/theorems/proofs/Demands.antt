@@ -5,7 +5,7 @@ use Prim.Native.Nat.{ℕ, _+_, _≤_, _<_}
 use native.Mathlib.Omega.{arith}
 use lib.ListN.{length, drop}
 use borrow.Author.Tests.{eq-eqb, ne-eqb, lt-ltb}
-use Rattle.rules.specs.Month.{Consumer}
+use Rattle.rules.specs.declared.Consumer.{Consumer}
 use Rattle.rules.specs.Limits.{SheetLimits}
 use Rattle.rules.specs.Fields.{over}
 use Rattle.rules.specs.Sheet.{headerOf, monthOf, hoursWidth, hourAt}

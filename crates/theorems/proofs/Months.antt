@@ -1,7 +1,9 @@
 -- Demand 3 over months. Assumes nothing.
 use mathlib.Core.Path.{_≡_, sym, ap}
 use Prim.Native.Nat.{ℕ, _≤_, _<_}
-use Rattle.rules.specs.Month.{Header, Row, Month}
+use Rattle.rules.specs.declared.Header.{Header}
+use Rattle.rules.specs.declared.Row.{Row}
+use Rattle.rules.specs.Month.{Month}
 use Rattle.rules.specs.Limits.{MonthLimits}
 use Rattle.rules.specs.Cut.{support, bilateral}
 use Rattle.rules.specs.Rows.{actual, payment}

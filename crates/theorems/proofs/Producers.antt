@@ -6,7 +6,8 @@ use native.Mathlib.Nat.{le-refl, not-suc-le-zero, mul-le-mul, mul-le-mul-right}
 use native.Mathlib.Omega.{arith}
 use Rattle.rules.specs.Range.{sum}
 use Rattle.rules.specs.Units.{one}
-use Rattle.rules.specs.Month.{Header, Producer, hours}
+use Rattle.rules.specs.declared.Header.{Header}
+use Rattle.rules.specs.Month.{Producer, hours}
 use Rattle.rules.specs.ControlHours.{controlHour, counted, controlSum, controlCount, average, controlAverage}
 use Rattle.rules.specs.Coefficients.{share, overuse, penalty, lessPenalty, k1, k2, asked, met, k4, k5, inOrder}
 use Rattle.laws.proofs.Range.{sum-mono, sum-same, when-mono}

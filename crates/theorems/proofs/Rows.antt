@@ -8,7 +8,9 @@ use native.Mathlib.Omega.{arith}
 use borrow.Author.Tests.{eqb-true}
 use lib.Dec.{eqb}
 use Rattle.rules.specs.Range.{sum, when}
-use Rattle.rules.specs.Month.{Header, Row, Month, hours}
+use Rattle.rules.specs.declared.Header.{Header}
+use Rattle.rules.specs.declared.Row.{Row}
+use Rattle.rules.specs.Month.{Month, hours}
 use Rattle.rules.specs.Cut.{owns, support, bilateral, ownVolume, ownSupport, ownBilateral, supportVolume, bilateralVolume, summedCapacity, excess, leftToCut, afterCut}
 use Rattle.rules.specs.Coefficients.{coefficients}
 use Rattle.rules.specs.Rows.{running, through, actual, payment}

@@ -3,7 +3,9 @@ use Prim.Native.Nat.{ℕ, _≤_, _<_}
 use mathlib.Core.Path.{_≡_}
 use mathlib.Core.List.{List}
 use lib.ListN.{take}
-use Rattle.rules.specs.Month.{Header, Producer, Consumer, Month, hours}
+use Rattle.rules.specs.declared.Header.{Header}
+use Rattle.rules.specs.declared.Consumer.{Consumer}
+use Rattle.rules.specs.Month.{Producer, Month, hours}
 use Rattle.rules.specs.Sheet.{headerWidth, monthOf}
 use Rattle.rules.specs.Result.{readRow, readConsumer, readTotals}
 
@@ -30,8 +32,8 @@ pub record WorseProducer (hours : ℕ) (p p′ : Producer) : Type 0 where
 pub record WorseConsumer (c c′ : Consumer) : Type 0 where
   pub contract : c′ .contract ≡ c .contract
   pub peak : c .peak ≤ c′ .peak
-  pub supplierMining : c .supplierMining ≤ c′ .supplierMining
-  pub gridMining : c .gridMining ≤ c′ .gridMining
+  pub supplier : c .supplier ≤ c′ .supplier
+  pub grid : c .grid ≤ c′ .grid
   pub z : c .z ≤ c′ .z
   pub price : c′ .price ≡ c .price
 

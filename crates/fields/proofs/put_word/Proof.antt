@@ -1,0 +1,61 @@
+use native.Mathlib.Omega.{arith}
+use Rattle.rules.specs.Fields.{bytesOf, over}
+use lib.Seq.{sets-eq}
+use Rattle.fields.proofs.Placing.{field-not, field-over}
+use lib.ListN.{length-set}
+use mathlib.Core.Path.{_∙_, sym}
+use borrow.Author.Needs.{needs}
+use Rattle.fields.proofs.put_word.Statement.{statement}
+use Rattle.fields.proofs.put_word.Tie as tie
+
+returns : tie.Need-returns
+returns c = sym (field-not 4 _ _ (c .if1 .taken))
+
+cast-part : tie.Need-cast-part
+cast-part c = search needs
+
+slice-write-part : tie.Need-slice-write-part
+slice-write-part c = search needs
+
+cast-part-2 : tie.Need-cast-part-2
+cast-part-2 c = search needs
+
+slice-write-part-2 : tie.Need-slice-write-part-2
+slice-write-part-2 c = simp length-set (omega arith)
+
+cast-part-3 : tie.Need-cast-part-3
+cast-part-3 c = search needs
+
+slice-write-part-3 : tie.Need-slice-write-part-3
+slice-write-part-3 c = simp length-set (omega arith)
+
+cast-part-4 : tie.Need-cast-part-4
+cast-part-4 c = search needs
+
+slice-write-part-4 : tie.Need-slice-write-part-4
+slice-write-part-4 c = simp length-set (omega arith)
+
+same-length : tie.Need-same-length
+same-length c = simp length-set
+
+returns-2 : tie.Need-returns-2
+unfolding bytesOf over
+returns-2 c =
+    sets-eq (bytesOf 4 (c .before .args .v)) (c .before .args .part .now) 0 (c .if1 .left)
+    ∙ sym (field-over 4 (c .before .args .v) (c .before .args .part .now) (c .if1 .left))
+
+pub put-word-spec : {M : Type 1} → statement M
+put-word-spec =
+    tie.close
+    (tie.spec
+    returns
+    cast-part
+    slice-write-part
+    cast-part-2
+    slice-write-part-2
+    cast-part-3
+    slice-write-part-3
+    cast-part-4
+    slice-write-part-4
+    same-length
+    returns-2)
