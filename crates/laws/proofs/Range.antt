@@ -1,6 +1,6 @@
 -- Laws of sums and tests over a range, each once. Assumes nothing.
 use mathlib.Core.Path.{_≡_, refl, sym, ap, _∙_}
-use mathlib.Core.Bool.{Bool, true, false, _||_, true≢false}
+use mathlib.Core.Bool.{Bool, true, false, _||_, or-true, true≢false}
 use mathlib.Core.Logic.{⊎-elim}
 use Prim.Native.Nat.{ℕ, zero, suc, zero-le, _+_, _*_, _≤_, _<_}
 use native.Mathlib.Nat.{le-refl, le-antisymm, le-of-eq, suc-mul, eq-or-lt-of-le, le-of-suc-le-suc}
@@ -73,3 +73,38 @@ pub any-none : (f : ℕ → Bool) (n : ℕ) → ((i : ℕ) → i < n → f i ≡
 unfolding any
 any-none f zero h = refl
 any-none f (suc n) h = rw (any-none f n (λ i l. h i (omega arith)), h n (omega arith))
+
+-- A search's start, its turn, its find and its end.
+pub any-start : (f : ℕ → Bool) → any f 0 ≡ false
+unfolding any
+any-start f = refl
+
+pub any-more : (f : ℕ → Bool) (i : ℕ) → any f i ≡ false → f i ≡ false → any f (i + 1) ≡ false
+unfolding any
+any-more f i e q = rw (add-one, e, q)
+
+pub any-hit : (f : ℕ → Bool) (n i : ℕ) → i < n → f i ≡ true → any f n ≡ true
+unfolding any
+any-hit f zero i l q = absurd (omega arith)
+any-hit f (suc n) i l q =
+    ⊎-elim (λ e. ap (λ (b : Bool). any f n || b) (ap f (sym e) ∙ q) ∙ or-true (any f n)) (λ k. rw (any-hit f n i k q))
+    (eq-or-lt-of-le (le-of-suc-le-suc l))
+
+pub any-end : (f : ℕ → Bool) {i n : ℕ} → i ≤ n → n ≤ i → any f i ≡ false → any f n ≡ false
+any-end f {i} {n} p q h = let e : n ≡ i = omega arith in ap (any f) e ∙ h
+
+-- The same test at every place, and two tests at once.
+pub any-same : (f g : ℕ → Bool) (n : ℕ) → ((i : ℕ) → i < n → f i ≡ g i) → any f n ≡ any g n
+unfolding any
+any-same f g zero h = refl
+any-same f g (suc n) h = rw (any-same f g n (λ i l. h i (omega arith)), h n (omega arith))
+
+or-swap : (a b x y : Bool) → ((a || b) || (x || y)) ≡ ((a || x) || (b || y))
+or-swap true b x y = refl
+or-swap false true x y = sym (or-true x)
+or-swap false false x y = refl
+
+pub any-or : (f g : ℕ → Bool) (n : ℕ) → any (λ i. f i || g i) n ≡ (any f n || any g n)
+unfolding any
+any-or f g zero = refl
+any-or f g (suc n) = ap (λ (b : Bool). b || (f n || g n)) (any-or f g n) ∙ or-swap (any f n) (any g n) (f n) (g n)

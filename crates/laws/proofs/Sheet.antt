@@ -1,7 +1,7 @@
 -- The sheet's length, and where a producer's hours stand in it. Assumes nothing.
 use mathlib.Core.Path.{_≡_}
 use Prim.Native.Nat.{ℕ, _+_, _*_, _≤_, _<_}
-use native.Mathlib.Nat.{mul-le-mul-right}
+use native.Mathlib.Nat.{mul-le-mul, mul-le-mul-right}
 use native.Mathlib.Omega.{arith}
 use Rattle.rules.specs.declared.Header.{Header}
 use Rattle.rules.specs.Sheet.{hoursWidth, producerAt, hourAt, rowAt, consumerAt, sheetLength}
@@ -15,3 +15,7 @@ sheet-length h = omega arith
 pub hours-inside : (h : Header) (p : ℕ) → p < h .producers → hourAt h p 0 + hoursWidth h ≤ sheetLength h
 unfolding sheetLength consumerAt rowAt hourAt producerAt
 hours-inside h p l = omega (arith, mul-le-mul-right (42 + 288 * h .days) l)
+
+-- The bytes before a producer's place are not many, whatever a header's bytes say.
+pub producers-le : (p days : ℕ) → p ≤ 255 → days ≤ 255 → p * (42 + 288 * days) ≤ 18737910
+producers-le p days hp hd = mul-le-mul {n₂ = 255} {m₂ = 73482} hp (omega arith)

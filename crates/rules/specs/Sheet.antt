@@ -103,12 +103,16 @@ consumerOf s at =
       price = bigEndian 4 s (at + 11);
     }
 
+-- The month with a header whose producers, rows and consumers stand in s where that header puts them.
+abbrev pub monthUnder : Header → List ℕ → Month
+monthUnder h s =
+    record {
+      header = h;
+      producer = λ p. producerOf s (producerAt h p) (hourAt h p);
+      row = λ j. rowOf s (rowAt h j);
+      consumer = λ c. consumerOf s (consumerAt h c);
+    }
+
 -- The month that a sheet states.
 abbrev pub monthOf : List ℕ → Month
-monthOf s =
-    record {
-      header = headerOf s;
-      producer = λ p. producerOf s (producerAt (headerOf s) p) (hourAt (headerOf s) p);
-      row = λ j. rowOf s (rowAt (headerOf s) j);
-      consumer = λ c. consumerOf s (consumerAt (headerOf s) c);
-    }
+monthOf s = monthUnder (headerOf s) s

@@ -1,0 +1,16 @@
+use mathlib.Core.Bool.{or-false}
+use Rattle.rules.specs.Refusals.{oneOf, badMonth}
+use borrow.Author.Needs.{needs}
+use Rattle.sheet.proofs.form.bad_month.Statement.{statement}
+use Rattle.sheet.proofs.form.bad_month.Tie as tie
+use Rattle.calendar.proofs.holiday_past.Reads as holiday-past-reads
+
+holiday-past-requires : tie.Need-holiday-past-requires
+holiday-past-requires c κs = search needs
+
+returns : tie.Need-returns
+unfolding badMonth oneOf
+returns c = rw (or-false, c .holiday-past .ensures)
+
+pub bad-month-spec : {M : Type 1} → statement M
+bad-month-spec = tie.close (tie.spec holiday-past-requires returns)

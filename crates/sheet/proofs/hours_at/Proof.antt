@@ -1,0 +1,19 @@
+use native.Mathlib.Omega.{arith}
+use Rattle.rules.specs.Sheet.{hourAt}
+use borrow.Author.Needs.{needs}
+use Rattle.sheet.proofs.hours_at.Statement.{statement}
+use Rattle.sheet.proofs.hours_at.Tie as tie
+use Rattle.sheet.proofs.producer_at.Reads as producer-at-reads
+
+producer-at-requires : tie.Need-producer-at-requires
+producer-at-requires c κs = search needs
+
+add-result : tie.Need-add-result
+add-result c = search needs
+
+returns : tie.Need-returns
+unfolding hourAt
+returns c = (omega arith, omega arith)
+
+pub hours-at-spec : {M : Type 1} → statement M
+hours-at-spec = tie.close (tie.spec producer-at-requires add-result returns)

@@ -1,0 +1,15 @@
+use Rattle.rules.specs.Sheet.{sheetLength}
+use borrow.Author.Needs.{needs}
+use Rattle.sheet.proofs.sheet_length.Statement.{statement}
+use Rattle.sheet.proofs.sheet_length.Tie as tie
+use Rattle.sheet.proofs.consumer_at.Reads as consumer-at-reads
+
+consumer-at-requires : tie.Need-consumer-at-requires
+consumer-at-requires c κs = search needs
+
+returns : tie.Need-returns
+unfolding sheetLength
+returns c = search needs
+
+pub sheet-length-spec : {M : Type 1} → statement M
+sheet-length-spec = tie.close (tie.spec consumer-at-requires returns)

@@ -1,0 +1,51 @@
+// Numbers 1 to 7: the sheet's form and the result buffer's room.
+ghost use mathlib.Core.Path.{_≡_};
+ghost use mathlib.Core.Bool.{cond};
+ghost use Rattle.rules.specs.Refusals.{badMonth, tooMany, formTests, roomTests, firstOf};
+
+use crate::{header, result_length, sheet_length};
+use calendar::holiday_past;
+use fields::{byte, word};
+use rules::Header;
+
+// The number where its test applies, otherwise what the tests after it say.
+pub(crate) fn first(number: u8, applies: bool, rest: u8) -> u8
+    ensures { λ r. ⌜ r ≡ cond applies number rest ⌝ }
+{
+    if applies { number } else { rest }
+}
+
+// 4: the month.
+fn bad_month(h: Header) -> bool
+    ensures { λ r. ⌜ r ≡ badMonth h ⌝ }
+{
+    (h.days < 28) | ((31 < h.days) | ((h.weekday < 1) | ((7 < h.weekday) | holiday_past(h))))
+}
+
+// 5: the counts.
+fn too_many(h: Header) -> bool
+    ensures { λ r. ⌜ r ≡ tooMany h ⌝ }
+{
+    (6 < h.producers) | ((32 < h.rows) | (32 < h.consumers))
+}
+
+// The first of the numbers 1 to 6 that applies, 0 where none does.
+pub fn form_refusal(s: &[u8]) -> u8
+    ensures { λ r. ⌜ r ≡ firstOf (formTests (now (s .entry))) ⌝ }
+{
+    let h = header(s);
+    let told = word(s, 0) as usize;
+    let six = first(6, told != sheet_length(h), 0);
+    let five = first(5, too_many(h), six);
+    let four = first(4, bad_month(h), five);
+    let three = first(3, byte(s, 4) != 1, four);
+    let two = first(2, told != s.len(), three);
+    first(1, s.len() < 14, two)
+}
+
+// 7 where the result does not fit into a buffer of so many bytes, otherwise 0.
+pub fn room_refusal(h: Header, room: usize) -> u8
+    ensures { λ r. ⌜ r ≡ firstOf (roomTests h room) ⌝ }
+{
+    first(7, room < result_length(h), 0)
+}

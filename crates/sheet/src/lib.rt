@@ -1,0 +1,96 @@
+// The sheet: where its records stand, what its header says, and whether it is turned down.
+ghost use mathlib.Core.Path.{_≡_};
+ghost use Prim.Native.Nat.{_≤_};
+ghost use Rattle.rules.specs.Sheet.{headerOf, producerAt, hourAt, rowAt, consumerAt, sheetLength, rowOf, consumerOf};
+ghost use Rattle.rules.specs.Result.{resultLength};
+
+use fields::{byte, word};
+use rules::{Consumer, Header, Row};
+
+mod form;
+
+pub use form::{form_refusal, room_refusal};
+
+// The header's month and counts.
+pub fn header(s: &[u8]) -> Header
+    ensures { λ r. ⌜ r ≡ headerOf (now (s .entry)) ⌝ }
+{
+    Header {
+        days: byte(s, 5),
+        weekday: byte(s, 6),
+        holidays: word(s, 7),
+        producers: byte(s, 11),
+        rows: byte(s, 12),
+        consumers: byte(s, 13),
+    }
+}
+
+// Where producer p begins.
+pub fn producer_at(h: Header, p: u8) -> usize
+    ensures { λ r. ⌜ (r ≡ producerAt h p) × (r ≤ 20000000) ⌝ }
+{
+    14 + (p as usize) * (42 + 288 * (h.days as usize))
+}
+
+// Where producer p's hours begin.
+pub fn hours_at(h: Header, p: u8) -> usize
+    ensures { λ r. ⌜ (r ≡ hourAt h p 0) × (r ≤ 20000042) ⌝ }
+{
+    producer_at(h, p) + 42
+}
+
+// Where row j begins.
+pub fn row_at(h: Header, j: u8) -> usize
+    ensures { λ r. ⌜ (r ≡ rowAt h j) × (r ≤ 20002550) ⌝ }
+{
+    producer_at(h, h.producers) + 10 * (j as usize)
+}
+
+// Where consumer c begins.
+pub fn consumer_at(h: Header, c: u8) -> usize
+    ensures { λ r. ⌜ (r ≡ consumerAt h c) × (r ≤ 20006375) ⌝ }
+{
+    row_at(h, h.rows) + 15 * (c as usize)
+}
+
+// The length that the header asks of the sheet.
+pub fn sheet_length(h: Header) -> usize
+    ensures { λ r. ⌜ r ≡ sheetLength h ⌝ }
+{
+    consumer_at(h, h.consumers)
+}
+
+// The length of the result.
+pub fn result_length(h: Header) -> usize
+    ensures { λ r. ⌜ r ≡ resultLength h ⌝ }
+{
+    21 + 16 * (h.rows as usize) + 25 * (h.consumers as usize)
+}
+
+// Row j.
+pub fn row(s: &[u8], h: Header, j: u8) -> Row
+    ensures { λ r. ⌜ r ≡ rowOf (now (s .entry)) (rowAt h j) ⌝ }
+{
+    let at = row_at(h, j);
+    Row {
+        producer: byte(s, at),
+        consumer: byte(s, at + 1),
+        volume: word(s, at + 2),
+        price: word(s, at + 6),
+    }
+}
+
+// Consumer c.
+pub fn consumer(s: &[u8], h: Header, c: u8) -> Consumer
+    ensures { λ r. ⌜ r ≡ consumerOf (now (s .entry)) (consumerAt h c) ⌝ }
+{
+    let at = consumer_at(h, c);
+    Consumer {
+        contract: word(s, at),
+        peak: word(s, at + 4),
+        supplier: byte(s, at + 8),
+        grid: byte(s, at + 9),
+        z: byte(s, at + 10),
+        price: word(s, at + 11),
+    }
+}
