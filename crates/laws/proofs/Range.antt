@@ -79,6 +79,17 @@ pub any-start : (f : ℕ → Bool) → any f 0 ≡ false
 unfolding any
 any-start f = refl
 
+pub any-step : (f : ℕ → Bool) (i : ℕ) → any f (i + 1) ≡ (any f i || f i)
+unfolding any
+any-step f i = rw add-one
+
+-- A loop that joins every test into one flag.
+pub any-fold : (f : ℕ → Bool) (i : ℕ) {found b : Bool} → found ≡ any f i → b ≡ f i → (found || b) ≡ any f (i + 1)
+any-fold f i e q = rw (e, q) (sym (any-step f i))
+
+pub any-done : (f : ℕ → Bool) {i n : ℕ} {found : Bool} → i ≤ n → n ≤ i → found ≡ any f i → found ≡ any f n
+any-done f {i} {n} p q e = let same : i ≡ n = omega arith in e ∙ ap (any f) same
+
 pub any-more : (f : ℕ → Bool) (i : ℕ) → any f i ≡ false → f i ≡ false → any f (i + 1) ≡ false
 unfolding any
 any-more f i e q = rw (add-one, e, q)

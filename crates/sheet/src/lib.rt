@@ -7,8 +7,10 @@ ghost use Rattle.rules.specs.Result.{resultLength};
 use fields::{byte, word};
 use rules::{Consumer, Header, Row};
 
+mod contents;
 mod form;
 
+pub use contents::figure_refusal;
 pub use form::{form_refusal, room_refusal};
 
 // The header's month and counts.

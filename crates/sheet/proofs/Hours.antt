@@ -1,0 +1,21 @@
+-- Where a producer's hours stand, as a loop over them meets them. Assumes nothing.
+use mathlib.Core.Path.{_≡_}
+use mathlib.Core.List.{List}
+use Prim.Native.Nat.{ℕ, _+_, _*_}
+use native.Mathlib.Omega.{arith}
+use Rattle.rules.specs.declared.Header.{Header}
+use Rattle.rules.specs.Range.{any}
+use Rattle.rules.specs.Sheet.{hourAt, monthUnder}
+use Rattle.rules.specs.Refusals.{highHour}
+use Rattle.laws.proofs.Range.{any-same}
+use Rattle.sheet.specs.Contents.{highAt, highIn}
+
+-- Hour i begins 12 bytes after the hour before it.
+pub hour-there : (h : Header) (p i : ℕ) {at : ℕ} → at ≡ hourAt h p 0 → hourAt h p i ≡ at + 12 * i
+unfolding hourAt
+hour-there h p i e = omega (arith, e)
+
+pub high-there : (s : List ℕ) (h : Header) (p n : ℕ) {at : ℕ} → at ≡ hourAt h p 0
+    → any (highIn s at) n ≡ any (highHour (monthUnder h s .producer p)) n
+unfolding highIn highAt highHour
+high-there s h p n e = any-same _ _ n (λ i l. rw (hour-there h p i e))
