@@ -2,10 +2,11 @@
 use mathlib.Core.Path.{_≡_, refl, sym, _∙_}
 use mathlib.Core.Bool.{Bool, true, false, not, cond, _&&_, true≢false}
 use mathlib.Core.List.{List, [], _∷_, _++_}
-use Prim.Native.Nat.{ℕ, _/_, _^_, _≤_, _<_}
+use Prim.Native.Nat.{ℕ, _+_, _/_, _^_, _≤_, _<_}
 use native.Mathlib.Nat.{one-mul, div-lt-iff-lt-mul, div-eq-of-lt}
 use native.Mathlib.Omega.{arith}
-use borrow.Author.Tests.{ltb-false, leb-false, eqb-true, eqb-false, ne-eqb, eq-eqb, le-ltb, lt-leb}
+use borrow.Author.Tests.{ltb-false, leb-false, eqb-true, eqb-false, ne-eqb, eq-eqb, le-ltb, lt-ltb, lt-leb}
+use lib.ListN.{length}
 use lib.Pow.{pow-pos}
 use lib.Dec.{T, leb, ltb, eqb, leb→le}
 use lib.Ieee.Fits.{and-l, and-r}
@@ -15,11 +16,12 @@ use Rattle.rules.specs.declared.Header.{Header}
 use Rattle.rules.specs.declared.Row.{Row}
 use Rattle.rules.specs.declared.Consumer.{Consumer}
 use Rattle.rules.specs.Month.{Producer, Month, hours}
-use Rattle.rules.specs.Sheet.{headerOf, monthOf}
+use Rattle.rules.specs.Sheet.{headerOf, monthOf, hoursWidth, hourAt}
 use Rattle.rules.specs.Result.{resultLength}
 use Rattle.rules.specs.Refusals.{oneOf, badMonth, tooMany, badShare, tooHigh, highHour, highProducer, highRow, highConsumer, badReference, tooDear, badFactor, Test, formTests, roomTests, figureTests, tests, applies, firstOf, refusal}
 use Rattle.rules.specs.Limits.{HeaderLimits, ProducerLimits, RowLimits, ConsumerLimits, MonthLimits, FormLimits, SheetLimits}
-use Rattle.rules.specs.Outcome.{Accepted}
+use Rattle.rules.specs.Outcome.{Accepted, hoursStretch}
+use Rattle.laws.proofs.Sheet.{hours-inside}
 use Rattle.laws.proofs.Range.{or-left, or-right, any-clear, any-none}
 
 -- Where the first number is 0 no test applies, if none has the number 0.
@@ -364,3 +366,23 @@ module _ (s : List ℕ) (room : ℕ) where
       both-first before-figures (figureTests (monthOf s)) before-numbered
       (both-first (formTests s) (roomTests (headerOf s) room) form-numbered (form-clear s (l .form)) (room-clear (l .enough-room)))
       (month-figures-clear (monthOf s) (l .month))
+
+-- The stretch of hours: where it stands, that it ends within the sheet, and where there is none.
+module _ (s : List ℕ) (p : ℕ) where
+  pub stretch-there : firstOf (formTests s) ≡ 0 → p < headerOf s .producers
+      → hoursStretch s p ≡ record { place = hourAt (headerOf s) p 0; bytes = hoursWidth (headerOf s) }
+  unfolding hoursStretch
+  stretch-there e l = rw (eq-eqb _ _ e, lt-ltb _ _ l)
+
+  pub stretch-ends : firstOf (formTests s) ≡ 0 → p < headerOf s .producers → hourAt (headerOf s) p 0 + hoursWidth (headerOf s) ≤ length s
+  stretch-ends e l =
+      let f = form-limits s e in
+      omega (arith, f .length-told, f .length-right, hours-inside (headerOf s) p l)
+
+  pub stretch-refused : (firstOf (formTests s) ≡ 0 → ⊥) → hoursStretch s p ≡ record { place = 0; bytes = 0 }
+  unfolding hoursStretch
+  stretch-refused n = rw (ne-eqb _ _ n)
+
+  pub stretch-none : firstOf (formTests s) ≡ 0 → headerOf s .producers ≤ p → hoursStretch s p ≡ record { place = 0; bytes = 0 }
+  unfolding hoursStretch
+  stretch-none e l = rw (eq-eqb _ _ e, le-ltb _ _ l)

@@ -9,9 +9,11 @@ use rules::{Consumer, Header, Row};
 
 mod contents;
 mod form;
+mod stretch;
 
 pub use contents::figure_refusal;
 pub use form::{form_refusal, room_refusal};
+pub use stretch::producer_hours;
 
 // The header's month and counts.
 pub fn header(s: &[u8]) -> Header

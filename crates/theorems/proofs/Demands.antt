@@ -2,9 +2,8 @@
 use mathlib.Core.Path.{_≡_}
 use mathlib.Core.List.{List, _++_}
 use Prim.Native.Nat.{ℕ, _+_, _≤_, _<_}
-use native.Mathlib.Omega.{arith}
 use lib.ListN.{length, drop}
-use borrow.Author.Tests.{eq-eqb, ne-eqb, lt-ltb}
+use borrow.Author.Tests.{eq-eqb, ne-eqb}
 use Rattle.rules.specs.declared.Consumer.{Consumer}
 use Rattle.rules.specs.Limits.{SheetLimits}
 use Rattle.rules.specs.Fields.{over}
@@ -15,7 +14,6 @@ use Rattle.rules.specs.Result.{rowFigures, consumerFigures, totalFigures, rowFi
 use Rattle.rules.specs.Refusals.{formTests, tests, firstOf, refusal}
 use Rattle.rules.specs.Outcome.{refused, written, Accepted, outcome, bufferAfter, hoursStretch}
 use Rattle.laws.proofs.Fields.{Fit}
-use Rattle.laws.proofs.Sheet.{hours-inside}
 use Rattle.laws.proofs.Refusals as Refusals
 use Rattle.laws.proofs.Cut as Cut
 use Rattle.theorems.specs.Demand1.{First}
@@ -87,10 +85,7 @@ module _ (s out : List ℕ) where
 pub stretch-inside : (s : List ℕ) (p : ℕ) → firstOf (formTests s) ≡ 0 → p < headerOf s .producers
     → (hoursStretch s p ≡ record { place = hourAt (headerOf s) p 0; bytes = hoursWidth (headerOf s) })
     × (hourAt (headerOf s) p 0 + hoursWidth (headerOf s) ≤ length s)
-unfolding hoursStretch
-stretch-inside s p e l =
-    let f = Refusals.form-limits s e in
-    (rw (eq-eqb _ _ e, lt-ltb _ _ l), omega (arith, f .length-told, f .length-right, hours-inside (headerOf s) p l))
+stretch-inside s p e l = (Refusals.stretch-there s p e l, Refusals.stretch-ends s p e l)
 
 -- Demand 3 --------------------------------------------------------------------------------------------------------------------------
 

@@ -1,7 +1,7 @@
 use Rattle.laws.proofs.Range.{any-start, any-fold, any-done}
 use native.Mathlib.Omega.{arith}
 use borrow.Author.Needs.{needs}
-use mathlib.Core.Path.{_≡_, sym, ap, _∙_}
+use mathlib.Core.Path.{_≡_, sym, _∙_}
 use Prim.Native.Nat.{_-_, _≤_, zero-le}
 use Rattle.rules.specs.Range.{any}
 use Rattle.sheet.specs.Contents.{highIn}

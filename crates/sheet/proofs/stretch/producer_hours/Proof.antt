@@ -1,0 +1,94 @@
+use mathlib.Core.Path.{refl, sym, _∙_}
+use native.Mathlib.Omega.{arith}
+use Rattle.laws.proofs.Refusals.{stretch-refused, stretch-none}
+use Rattle.sheet.proofs.Hours.{no-stretch, stretch-fits, stretch-list, stretch-place}
+use borrow.Author.Needs.{needs}
+use Rattle.sheet.proofs.stretch.producer_hours.Statement.{statement}
+use Rattle.sheet.proofs.stretch.producer_hours.Tie as tie
+use Rattle.sheet.proofs.form.form_refusal.Reads as form-refusal-reads
+use Rattle.sheet.proofs.header.Reads as header-reads
+use Rattle.sheet.proofs.hours_at.Reads as hours-at-reads
+
+form-refusal-requires : tie.Need-form-refusal-requires
+form-refusal-requires c κs = search needs
+
+slice-aggregate-result : tie.Need-slice-aggregate-result
+slice-aggregate-result c = search needs
+
+returns : tie.Need-returns
+returns c = 
+    let p =
+        no-stretch _ _ _ (stretch-refused (c .before .before .before .before .args .s .now) (c .before .before .before .before .args .p) (λ z. c .before .if1 .taken (c .before .before .form-refusal .ensures ∙ z))) in
+    (p .0, (refl, p .1))
+
+header-requires : tie.Need-header-requires
+header-requires c κs = search needs
+
+slice-aggregate-result-2 : tie.Need-slice-aggregate-result-2
+slice-aggregate-result-2 c = search needs
+
+returns-2 : tie.Need-returns-2
+returns-2 c = 
+    let p =
+        no-stretch _ _ _
+        (stretch-none (c .before .before .before .before .before .before .before .args .s .now) (c .before .before .before .before .before .before .before .args .p) (sym (c .before .before .before .before .before .form-refusal .ensures) ∙ c .before .before .before .before .if1 .left)
+        (rw (c .before .before .before .header .ensures) at (c .before .if2 .taken))) in
+    (p .0, (refl, p .1))
+
+hours-at-requires : tie.Need-hours-at-requires
+hours-at-requires c κs = search needs
+
+cast-end : tie.Need-cast-end
+cast-end c = search needs
+
+mul-end : tie.Need-mul-end
+mul-end c = search needs
+
+add-end : tie.Need-add-end
+add-end c = search needs
+
+sub-result : tie.Need-sub-result
+sub-result c = search needs
+
+part-result-start : tie.Need-part-result-start
+part-result-start c = search needs
+
+part-result-end : tie.Need-part-result-end
+part-result-end c = 
+    omega (
+      arith,
+      stretch-fits (c .before .before .before .before .before .before .before .before .args .s .now) (c .before .before .before .before .before .before .before .before .args .p) (c .before .hours-at .result) (c .before .before .before .before .header .result) (c .before .before .before .before .header .ensures)
+      (c .before .hours-at .ensures .0) (sym (c .before .before .before .before .before .before .form-refusal .ensures) ∙ c .before .before .before .before .before .if1 .left) (c .before .before .if2 .left),
+    )
+
+returns-3 : tie.Need-returns-3
+returns-3 c = 
+    let f = sym (c .before .before .before .before .before .before .before .form-refusal .ensures) ∙ c .before .before .before .before .before .before .if1 .left in
+    (
+      stretch-list (c .before .before .before .before .before .before .before .before .before .args .s .now) (c .before .before .before .before .before .before .before .before .before .args .p) (c .before .before .hours-at .result) (c .before .before .before .before .before .header .result) (c .before .before .before .before .before .header .ensures)
+      (c .before .before .hours-at .ensures .0) f (c .before .before .before .if2 .left),
+      (
+        refl,
+        stretch-place (c .before .before .before .before .before .before .before .before .before .args .s .now) (c .before .before .before .before .before .before .before .before .before .args .p) (c .before .before .hours-at .result) (c .before .before .before .before .before .header .result) (c .before .before .before .before .before .header .ensures)
+        (c .before .before .hours-at .ensures .0) f (c .before .before .before .if2 .left) _,
+      ),
+    )
+
+pub producer-hours-spec : {M : Type 1} → statement M
+producer-hours-spec =
+    tie.close
+    (tie.spec
+    form-refusal-requires
+    slice-aggregate-result
+    returns
+    header-requires
+    slice-aggregate-result-2
+    returns-2
+    hours-at-requires
+    cast-end
+    mul-end
+    add-end
+    sub-result
+    part-result-start
+    part-result-end
+    returns-3)
