@@ -42,6 +42,12 @@ sum-more f i = rw add-one
 pub sum-end : (f : ℕ → ℕ) {i n : ℕ} → i ≤ n → n ≤ i → sum f i ≡ sum f n
 sum-end f {i} {n} p q = let e : i ≡ n = omega arith in ap (sum f) e
 
+pub sum-fold : (f : ℕ → ℕ) (i : ℕ) {acc v : ℕ} → acc ≡ sum f i → v ≡ f i → acc + v ≡ sum f (i + 1)
+sum-fold f i e q = omega (arith, sum-more f i, e, q)
+
+pub sum-done : (f : ℕ → ℕ) {i n acc : ℕ} → i ≤ n → n ≤ i → acc ≡ sum f i → acc ≡ sum f n
+sum-done f p q e = e ∙ sum-end f p q
+
 pub when-mono : (b : Bool) {v w : ℕ} → v ≤ w → when b v ≤ when b w
 unfolding when
 when-mono true h = h

@@ -1,7 +1,5 @@
-use Prim.Native.Nat.{_<_, _^_}
 use native.Mathlib.Omega.{arith}
-use native.Mathlib.Nat.{div-eq-of-lt, lt-of-lt-of-le}
-use lib.Pow.{pow-mono}
+use Rattle.calendar.proofs.Shifts.{shifted-out}
 use borrow.Author.Needs.{needs}
 use Rattle.calendar.proofs.holiday_past.Statement.{statement}
 use Rattle.calendar.proofs.holiday_past.Tie as tie
@@ -16,9 +14,7 @@ returns : tie.Need-returns
 returns c = search needs
 
 returns-2 : tie.Need-returns-2
-returns-2 c = 
-    let small : c .before .args .h .holidays < 2 ^ 32 = omega arith in
-    rw (div-eq-of-lt (lt-of-lt-of-le small (pow-mono (c .if1 .left))))
+returns-2 c = rw (shifted-out (c .before .before .args .h .holidays) _ (omega arith) (c .if1 .left))
 
 pub holiday-past-spec : {M : Type 1} → statement M
 holiday-past-spec = tie.close (tie.spec cast-result shr-result returns returns-2)
