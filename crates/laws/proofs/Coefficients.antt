@@ -1,16 +1,38 @@
 -- No coefficient is above 1. Assumes nothing.
-use mathlib.Core.Path.{refl}
+use mathlib.Core.Path.{_≡_, refl, sym}
 use mathlib.Core.List.{List, [], _∷_}
-use Prim.Native.Nat.{ℕ, zero, suc, zero-le, _*_, _≤_}
+use Prim.Native.Nat.{ℕ, zero, suc, zero-le, _-_, _*_, _≤_, _<_}
 use native.Mathlib.Nat.{le-refl, sub-le}
 use native.Mathlib.Omega.{arith}
-use Rattle.rules.specs.Units.{one}
+use Rattle.rules.specs.Units.{rounded, one}
+use Rattle.rules.specs.ControlHours.{average}
 use Rattle.rules.specs.declared.Header.{Header}
 use Rattle.rules.specs.Month.{Producer, hours}
 use Rattle.rules.specs.Limits.{ProducerLimits}
 use Rattle.rules.specs.Coefficients.{share, penalty, lessPenalty, k1, k2, asked, met, k4, k5, inOrder}
 use Rattle.laws.proofs.Range.{sum-mono}
-use Rattle.laws.proofs.Units.{rounded-at-most}
+use Rattle.laws.proofs.Units.{rounded-over-0, rounded-at-most}
+
+-- The zero rules apart: an average is a rounded quotient, a share of something too, and a penalty of what T has.
+pub average-is : (total n : ℕ) → average total n ≡ rounded total n
+unfolding average
+average-is total zero = sym (rounded-over-0 total)
+average-is total (suc n) = refl
+
+pub share-some : (part whole : ℕ) → 0 < whole → share part whole ≡ rounded (part * one) whole
+unfolding share
+share-some part zero l = absurd (omega arith)
+share-some part (suc rest) l = refl
+
+pub penalty-of-none : (x : ℕ) → (x ≡ 0 → ⊥) → lessPenalty 0 x ≡ 0
+unfolding lessPenalty
+penalty-of-none zero n = absurd (n refl)
+penalty-of-none (suc x) n = refl
+
+pub penalty-of-some : (T x : ℕ) → 0 < T → lessPenalty T x ≡ rounded ((10 * T - x) * one) (10 * T)
+unfolding lessPenalty
+penalty-of-some zero x l = absurd (omega arith)
+penalty-of-some (suc T) x l = share-some (10 * suc T - x) (10 * suc T) (omega arith)
 
 -- A share of a part is at most 1.
 pub share-at-most : (whole : ℕ) {part : ℕ} → part ≤ whole → share part whole ≤ one

@@ -8,6 +8,10 @@ ghost use Rattle.rules.specs.Sheet.{monthUnder};
 ghost use Rattle.rules.specs.ControlHours.{controlHour, controlCount};
 ghost use Rattle.producer.specs.Sums.{volumesOf, sumsOf};
 
+mod coefficients;
+
+pub use coefficients::{bids, less, less_penalty, overuse, penalty, plans};
+
 use calendar::control_day;
 use fields::word;
 use rules::{Header, Row};

@@ -1,0 +1,17 @@
+use borrow.Author.Needs.{needs}
+use Rattle.producer.proofs.coefficients.plans.Statement.{statement}
+use Rattle.producer.proofs.coefficients.plans.Tie as tie
+use Rattle.figures.proofs.share.Reads as share-reads
+use Rattle.producer.proofs.coefficients.missing.Reads as missing-reads
+
+missing-requires : tie.Need-missing-requires
+missing-requires c κs = search needs
+
+share-requires : tie.Need-share-requires
+share-requires c κs = search needs
+
+returns : tie.Need-returns
+returns c = rw (c .share .ensures, c .before .missing .ensures)
+
+pub plans-spec : {M : Type 1} → statement M
+plans-spec = tie.close (tie.spec missing-requires share-requires returns)

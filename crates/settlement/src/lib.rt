@@ -1,0 +1,49 @@
+// The settlement of one month: every sheet and every result buffer is answered.
+ghost use mathlib.Core.Path.{_≡_};
+ghost use lib.ListN.{length};
+ghost use Rattle.rules.specs.Refusals.{refusal};
+ghost use Rattle.rules.specs.Outcome.{outcome, bufferAfter};
+ghost use Rattle.settlement.specs.Said.{said};
+
+use sheet::{figure_refusal, form_refusal, header, result_length, room_refusal};
+
+// mod consumers;
+// mod result;
+// mod rows;
+mod terms;
+
+// What a settlement answers: a refusal with its number, or the count of bytes written.
+pub enum Answer {
+    Refused(u8),
+    Written(usize),
+}
+
+// The first number that applies to a sheet with a result buffer of so many bytes, 0 where none does.
+fn refusal_of(s: &[u8], room: usize) -> u8
+    ensures { λ r. ⌜ r ≡ refusal (now (s .entry)) room ⌝ }
+{
+    let form = form_refusal(s);
+    if form != 0 {
+        return form;
+    }
+    let h = header(s);
+    let seven = room_refusal(h, room);
+    if seven != 0 {
+        return seven;
+    }
+    figure_refusal(s, h)
+}
+
+// Settles a sheet into a result buffer. A refusal changes no byte of the buffer; bytes past a result keep what they had.
+pub fn settle(sheet: &[u8], result: &mut [u8]) -> Answer
+    ensures { λ r. ⌜ said r ≡ outcome (now (sheet .entry)) (length (now (result .entry))) ⌝ }
+    ensures buffer { λ r. ⌜ now (result .exit) ≡ bufferAfter (now (sheet .entry)) (now (result .entry)) ⌝ }
+{
+    let number = refusal_of(sheet, result.len());
+    if number != 0 {
+        return Answer::Refused(number);
+    }
+    let h = header(sheet);
+
+    Answer::Written(result_length(h))
+}
