@@ -7,9 +7,7 @@ ghost use Rattle.settlement.specs.Said.{said};
 
 use sheet::{figure_refusal, form_refusal, header, result_length, room_refusal};
 
-// mod consumers;
-// mod result;
-// mod rows;
+mod rows;
 mod terms;
 
 // What a settlement answers: a refusal with its number, or the count of bytes written.

@@ -1,0 +1,5 @@
+pub mod Bounds
+pub mod Answered
+pub mod Cuts
+pub mod Lent
+pub mod Products

@@ -1,0 +1,124 @@
+use native.Mathlib.Omega.{arith}
+use mathlib.Core.Path.{ap, _∙_}
+use Prim.Native.Nat.{ℕ, _+_}
+use Rattle.rules.specs.Fields.{bigEndian}
+use Rattle.rules.specs.Sheet.{monthUnder}
+use Rattle.producer.specs.declared.Volumes.{Volumes}
+use Rattle.producer.specs.Sums.{sumsOf}
+use Rattle.settlement.proofs.Bounds.{support-le, bilateral-le}
+use Rattle.settlement.proofs.Cuts.{summed-is, left-first}
+use borrow.Author.Needs.{needs}
+use Rattle.settlement.proofs.terms.terms_of.Statement.{statement}
+use Rattle.settlement.proofs.terms.terms_of.Tie as tie
+use Rattle.fields.proofs.word.Reads as word-reads
+use Rattle.producer.proofs.less.Reads as less-reads
+use Rattle.producer.proofs.hour_sums.Reads as hour-sums-reads
+use Rattle.producer.proofs.row_volumes.Reads as row-volumes-reads
+use Rattle.settlement.proofs.terms.ks_of.Reads as ks-of-reads
+use Rattle.sheet.proofs.producer_at.Reads as producer-at-reads
+
+producer-at-requires : tie.Need-producer-at-requires
+producer-at-requires c κs = search needs
+
+row-volumes-requires : tie.Need-row-volumes-requires
+row-volumes-requires c κs = search needs
+
+add-summed : tie.Need-add-summed
+add-summed c = omega (arith, ap (λ (v : Volumes). v .support) (c .before .row-volumes .ensures), ap (λ (v : Volumes). v .bilateral) (c .before .row-volumes .ensures), support-le (monthUnder (c .before .before .before .before .args .h) (c .before .before .before .before .args .s .now)) (c .before .before .before .before .pre .0) (c .before .before .before .before .args .p), bilateral-le (monthUnder (c .before .before .before .before .args .h) (c .before .before .before .before .args .s .now)) (c .before .before .before .before .pre .0) (c .before .before .before .before .args .p))
+
+add-word : tie.Need-add-word
+add-word c = search needs
+
+word-requires : tie.Need-word-requires
+word-requires c κs = search needs
+
+cast-summed : tie.Need-cast-summed
+cast-summed c = search needs
+
+add-summed-2 : tie.Need-add-summed-2
+add-summed-2 c = omega (arith, ap (λ (v : Volumes). v .support) (c .before .before .row-volumes .ensures), ap (λ (v : Volumes). v .bilateral) (c .before .before .row-volumes .ensures), support-le (monthUnder (c .before .before .before .before .before .args .h) (c .before .before .before .before .before .args .s .now)) (c .before .before .before .before .before .pre .0) (c .before .before .before .before .before .args .p), bilateral-le (monthUnder (c .before .before .before .before .before .args .h) (c .before .before .before .before .before .args .s .now)) (c .before .before .before .before .before .pre .0) (c .before .before .before .before .before .args .p))
+
+hour-sums-requires : tie.Need-hour-sums-requires
+hour-sums-requires c κs = search needs
+
+ks-of-requires : tie.Need-ks-of-requires
+ks-of-requires c κs = 
+    let a = c .before .before .before .before .before .before in
+    let m = (monthUnder (c .before .before .before .before .before .before .args .h) (c .before .before .before .before .before .before .args .s .now)) in
+    let at = c .before .before .before .before .producer-at .ensures in
+    let d = c .before .word .ensures ∙ ap (λ (x : ℕ). bigEndian 4 (a .args .s .now) (x + 4)) (at .0) in
+    (
+      a .pre .0,
+      (
+        (a .pre .1 .0, at .0, at .1),
+        (
+          c .before .before .before .row-volumes .ensures,
+          (
+            c .hour-sums .ensures ∙ ap (sumsOf (a .args .h) (m .producer (a .args .p))) (summed-is m (a .args .p) _ _ (c .before .before .before .row-volumes .ensures) d),
+            a .pre .1 .1,
+          ),
+        ),
+      ),
+    )
+
+add-word-2 : tie.Need-add-word-2
+add-word-2 c = search needs
+
+word-requires-2 : tie.Need-word-requires-2
+word-requires-2 c κs = search needs
+
+cast-less : tie.Need-cast-less
+cast-less c = search needs
+
+less-requires : tie.Need-less-requires
+less-requires c κs = search needs
+
+word-requires-3 : tie.Need-word-requires-3
+word-requires-3 c κs = search needs
+
+cast-less-2 : tie.Need-cast-less-2
+cast-less-2 c = search needs
+
+less-requires-2 : tie.Need-less-requires-2
+less-requires-2 c κs = search needs
+
+returns : tie.Need-returns
+returns c = 
+    let a = c .before .before .before .before .before .before .before .before .before .before .before in
+    let m = (monthUnder (c .before .before .before .before .before .before .before .before .before .before .before .args .h) (c .before .before .before .before .before .before .before .before .before .before .before .args .s .now)) in
+    let at = c .before .before .before .before .before .before .before .before .before .producer-at .ensures .0 in
+    let d = c .before .before .before .before .before .before .word .ensures ∙ ap (λ (x : ℕ). bigEndian 4 (a .args .s .now) (x + 4)) at in
+    let own = c .before .before .before .word2 .ensures ∙ ap (λ (x : ℕ). bigEndian 4 (a .args .s .now) (x + 8)) at in
+    let attested = c .before .word3 .ensures ∙ ap (λ (x : ℕ). bigEndian 4 (a .args .s .now) x) at in
+    rw
+    (
+      c .less2 .ensures,
+      c .before .before .less .ensures,
+      summed-is m (a .args .p) _ _ (c .before .before .before .before .before .before .before .before .row-volumes .ensures) d,
+      own,
+      attested,
+      c .before .before .before .before .ks-of .ensures,
+      left-first,
+    )
+
+pub terms-of-spec : {M : Type 1} → statement M
+terms-of-spec =
+    tie.close
+    (tie.spec
+    producer-at-requires
+    row-volumes-requires
+    add-summed
+    add-word
+    word-requires
+    cast-summed
+    add-summed-2
+    hour-sums-requires
+    ks-of-requires
+    add-word-2
+    word-requires-2
+    cast-less
+    less-requires
+    word-requires-3
+    cast-less-2
+    less-requires-2
+    returns)
