@@ -3,3 +3,4 @@ pub mod Answered
 pub mod Cuts
 pub mod Lent
 pub mod Products
+pub mod Turns

@@ -1,2 +1,3 @@
 pub mod Said
 pub mod Carried
+pub mod Lines

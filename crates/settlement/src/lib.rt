@@ -7,6 +7,7 @@ ghost use Rattle.settlement.specs.Said.{said};
 
 use sheet::{figure_refusal, form_refusal, header, result_length, room_refusal};
 
+mod consumers;
 mod rows;
 mod terms;
 
