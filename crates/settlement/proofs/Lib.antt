@@ -4,3 +4,4 @@ pub mod Cuts
 pub mod Lent
 pub mod Products
 pub mod Turns
+pub mod Factors

@@ -8,6 +8,7 @@ ghost use Rattle.settlement.specs.Said.{said};
 use sheet::{figure_refusal, form_refusal, header, result_length, room_refusal};
 
 mod consumers;
+mod result;
 mod rows;
 mod terms;
 
@@ -43,6 +44,6 @@ pub fn settle(sheet: &[u8], result: &mut [u8]) -> Answer
         return Answer::Refused(number);
     }
     let h = header(sheet);
-
+    result::write_result(sheet, h, result);
     Answer::Written(result_length(h))
 }
