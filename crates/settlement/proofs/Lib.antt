@@ -5,3 +5,4 @@ pub mod Lent
 pub mod Products
 pub mod Turns
 pub mod Factors
+pub mod Signed

@@ -3,7 +3,7 @@ ghost use mathlib.Core.Path.{_≡_};
 ghost use lib.ListN.{length};
 ghost use Rattle.rules.specs.Refusals.{refusal};
 ghost use Rattle.rules.specs.Outcome.{outcome, bufferAfter};
-ghost use Rattle.settlement.specs.Said.{said};
+ghost use Rattle.settlement.specs.Said.{said, inC};
 
 use sheet::{figure_refusal, form_refusal, header, result_length, room_refusal};
 
@@ -46,4 +46,17 @@ pub fn settle(sheet: &[u8], result: &mut [u8]) -> Answer
     let h = header(sheet);
     result::write_result(sheet, h, result);
     Answer::Written(result_length(h))
+}
+
+// The same for C: the count of bytes written, or minus the refusal's number (include/capacity.h).
+#[no_mangle]
+pub extern "C" fn capacity_settle(sheet: &[u8], result: &mut [u8]) -> i64
+    ensures { λ r. ⌜ r ≡ inC (outcome (now (sheet .entry)) (length (now (result .entry)))) ⌝ }
+    ensures buffer { λ r. ⌜ now (result .exit) ≡ bufferAfter (now (sheet .entry)) (now (result .entry)) ⌝ }
+{
+    let answer = settle(sheet, result);
+    match answer {
+        Answer::Refused(number) => -(number as i64),
+        Answer::Written(count) => count as i64,
+    }
 }

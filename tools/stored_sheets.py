@@ -1,0 +1,131 @@
+#!/usr/bin/env python3
+"""Makes the stored sheets that the program `listings` prints, and the sheet on the standard input of `settle`.
+
+  tools/stored_sheets.py          writes crates/listings/data/* and crates/settle/stdin
+  tools/stored_sheets.py RIVAL    also writes crates/listings/stdout, as the rival program RIVAL lists these sheets
+
+Every figure stands below: capacities and volumes in tenths of a megawatt, prices in tiyn per megawatt and month,
+coefficients in millionths. Nothing is random, so each run writes the same bytes.
+"""
+import struct
+import subprocess
+import sys
+from pathlib import Path
+
+CRATES = Path(__file__).resolve().parent.parent / "crates"
+ONE = 1000000
+SINGLE_BUYER = 255
+
+
+def sheet(days, weekday, holidays=0, producers=(), rows=(), consumers=()):
+    body = b"".join([*producers, *rows, *consumers])
+    counts = len(producers), len(rows), len(consumers)
+    return struct.pack(">IBBBIBBB", 14 + len(body), 1, days, weekday, holidays, *counts) + body
+
+
+def producer(attested, deductible, own_needs, missing, given, hours):
+    """missing: hours without an upward bid, without a downward bid, without a plan; given: k3, k6 to k10."""
+    powers = b"".join(struct.pack(">III", *hour) for hour in hours)
+    return struct.pack(">IIIHHH6I", attested, deductible, own_needs, *missing, *given) + powers
+
+
+def row(producer_number, buyer, volume, price):
+    return struct.pack(">BBII", producer_number, buyer, volume, price)
+
+
+def consumer(contract, peak, supplier_days, grid_days, z, price):
+    return struct.pack(">IIBBBI", contract, peak, supplier_days, grid_days, z, price)
+
+
+def example():
+    """Document 01's example: one consumer."""
+    return sheet(30, 1, consumers=[consumer(1000, 1260, 0, 0, 10, 100000)])
+
+
+def month():
+    """28 days from a Sunday, day 6 a holiday: two producers, support and bilateral rows, a cut, all bands."""
+    first = [(1400 + 7 * i % 211, 1500 + 5 * i % 97, 100 + 3 * i % 31) for i in range(24 * 28)]
+    second = [(600 + 11 * i % 301, 850 + i % 7, 20 + i % 5) for i in range(24 * 28)]
+    return sheet(
+        28, 7, 1 << 5,
+        producers=[
+            producer(1500, 100, 20, (12, 30, 4), (ONE, 999000, ONE, 998500, ONE, ONE), first),
+            producer(800, 20, 15, (0, 0, 0), (987654, ONE, ONE, ONE, 999999, ONE), second),
+        ],
+        rows=[
+            row(0, SINGLE_BUYER, 900, 61234567),
+            row(0, 0, 400, 58000000),
+            row(1, SINGLE_BUYER, 505, 60000001),
+            row(0, 2, 251, 57500050),
+            row(1, 1, 333, 59999999),
+            row(0, 0, 7, 1),
+        ],
+        consumers=[
+            consumer(1000, 1450, 0, 0, 10, 61000000),
+            consumer(500, 900, 0, 0, 11, 61000000),
+            consumer(777, 1140, 3, 0, 10, 60500025),
+            consumer(200, 282, 0, 5, 10, 199999999),
+            consumer(1, 500, 0, 0, 10, 33),
+            consumer(640, 640, 1, 2, 15, 61000000),
+            consumer(300, 450, 0, 0, 10, 61000000),
+        ],
+    )
+
+
+def zeros():
+    """A month of noughts: idle hours, volumes, prices, peaks and a coefficient of 0."""
+    idle = [(0, 0, 0)] * (24 * 28)
+    return sheet(
+        28, 1,
+        producers=[producer(1000, 0, 0, (0, 0, 0), (0, ONE, ONE, ONE, ONE, ONE), idle)],
+        rows=[
+            row(0, SINGLE_BUYER, 0, 0),
+            row(0, 0, 0, 60000000),
+            row(0, SINGLE_BUYER, 500, 60000000),
+        ],
+        consumers=[
+            consumer(0, 0, 0, 0, 10, 0),
+            consumer(0, 0, 0, 0, 10, 60000000),
+            consumer(100, 0, 0, 0, 10, 0),
+            consumer(0, 1, 0, 0, 10, 0),
+        ],
+    )
+
+
+def largest():
+    """The largest sheet, 54,634 bytes, with the largest payments, totals, volumes and charges."""
+    full = [(100000, 100000, 0)] * (24 * 31)
+    return sheet(
+        31, 1,
+        producers=[producer(100000, 0, 100000, (0, 0, 0), (ONE,) * 6, full)] * 6,
+        rows=[row(j % 6, SINGLE_BUYER, 100000, 200000000) for j in range(32)],
+        consumers=[consumer(0, 100000, 31, 31, 100, 200000000)] * 32,
+    )
+
+
+# In the order of the program.
+STORED = {
+    "month": month(),
+    "zeros": zeros(),
+    "largest": largest(),
+    "header": sheet(28, 1),
+    "refused_1": sheet(28, 1)[:13],
+    "refused_2": example()[:-1],
+    "refused_9": sheet(28, 1, consumers=[consumer(0, 100001, 0, 0, 10, 0)]),
+    "refused_12": sheet(28, 1, consumers=[consumer(0, 0, 0, 0, 9, 0)]),
+}
+
+
+def main():
+    (CRATES / "settle/stdin").write_bytes(example())
+    data = CRATES / "listings/data"
+    data.mkdir(exist_ok=True)
+    for name, content in STORED.items():
+        (data / name).write_bytes(content)
+    if len(sys.argv) > 1:
+        lists = [subprocess.run([sys.argv[1], "list", data / name], capture_output=True, check=True).stdout for name in STORED]
+        (CRATES / "listings/stdout").write_bytes(b"".join(lists))
+
+
+if __name__ == "__main__":
+    main()
