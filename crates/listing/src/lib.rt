@@ -1,5 +1,8 @@
 // The listing: a settlement's figures as lines of text, read back from the result's bytes.
+ghost use mathlib.Core.Path.{_≡_};
 ghost use Prim.Native.Nat.{_≤_};
+ghost use Rattle.rules.specs.Outcome.{outcome};
+ghost use Rattle.settlement.specs.Said.{said};
 use fields::byte;
 use fields::word;
 use settlement::Answer;
@@ -92,7 +95,9 @@ fn print_answer(sheet: &[u8], result: &[u8], answer: Answer) {
 }
 
 // Settles a sheet and prints its listing on standard output. The answer is the settlement's.
-pub fn list(sheet: &[u8]) -> Answer {
+pub fn list(sheet: &[u8]) -> Answer
+    ensures { λ r. ⌜ said r ≡ outcome (now (sheet .entry)) 1333 ⌝ }
+{
     let mut result = [0u8; 1333];
     let answer = settle(sheet, &mut result);
     print_answer(sheet, &result, answer);

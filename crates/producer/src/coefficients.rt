@@ -4,8 +4,11 @@ ghost use Prim.Native.Nat.{_-_, _*_, max};
 ghost use Rattle.rules.specs.ControlHours.{average};
 ghost use Rattle.rules.specs.Bands.{bandOf, thousandths};
 ghost use Rattle.rules.specs.Coefficients.{share, lessPenalty};
-
-use figures::{factor, nearest, share, thousandths, ONE};
+use figures::ONE;
+use figures::factor;
+use figures::nearest;
+use figures::share;
+use figures::thousandths;
 
 // a less b, not below 0.
 pub fn less(a: u64, b: u64) -> u64
@@ -57,7 +60,11 @@ pub fn bids(hours: u32, up: u16, down: u16) -> u64
 fn missing(hours: u32, count: u16) -> u32
     ensures { λ r. ⌜ r ≡ hours - count ⌝ }
 {
-    if (count as u32) < hours { hours - count as u32 } else { 0 }
+    if (count as u32) < hours {
+        hours - count as u32
+    } else {
+        0
+    }
 }
 
 // k5.

@@ -10,12 +10,18 @@ ghost use Rattle.producer.specs.Sums.{volumesOf, sumsOf};
 
 mod coefficients;
 
-pub use coefficients::{bids, less, less_penalty, overuse, penalty, plans};
-
 use calendar::control_day;
+pub use coefficients::bids;
+pub use coefficients::less;
+pub use coefficients::less_penalty;
+pub use coefficients::overuse;
+pub use coefficients::penalty;
+pub use coefficients::plans;
 use fields::word;
-use rules::{Header, Row};
-use sheet::{hours_at, row};
+use rules::Header;
+use rules::Row;
+use sheet::hours_at;
+use sheet::row;
 
 // The volumes of a producer's support rows (T) and bilateral rows (B), in tenths of a megawatt.
 pub struct Volumes {
@@ -109,7 +115,11 @@ pub fn hour_sums(s: &[u8], h: Header, p: u8, summed: u64) -> Sums
         counted = counted + counted_of(h, i, word(s, at + 8));
         i += 1;
     }
-    Sums { asked, met, counted }
+    Sums {
+        asked,
+        met,
+        counted,
+    }
 }
 
 // The count of the month's control hours.

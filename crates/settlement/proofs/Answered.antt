@@ -31,19 +31,19 @@ module _ (s : List ℕ) (room : ℕ) where
   pub form-first : (firstOf (formTests s) ≡ 0 → ⊥) → refusal s room ≡ firstOf (formTests s)
   form-first n =
       let e : firstOf (formTests s ++ roomTests (headerOf s) room) ≡ firstOf (formTests s) =
-          first-append (formTests s) (roomTests (headerOf s) room) form-numbered ∙ rw (ne-eqb (firstOf (formTests s)) 0 n) in
+      first-append (formTests s) (roomTests (headerOf s) room) form-numbered ∙ rw (ne-eqb (firstOf (formTests s)) 0 n) in
       split ∙ rw (e, ne-eqb (firstOf (formTests s)) 0 n)
 
   pub room-first : firstOf (formTests s) ≡ 0 → (firstOf (roomTests (headerOf s) room) ≡ 0 → ⊥) → refusal s room ≡ firstOf (roomTests (headerOf s) room)
   room-first f n =
       let e : firstOf (formTests s ++ roomTests (headerOf s) room) ≡ firstOf (roomTests (headerOf s) room) =
-          first-append (formTests s) (roomTests (headerOf s) room) form-numbered ∙ rw (eq-eqb (firstOf (formTests s)) 0 f) in
+      first-append (formTests s) (roomTests (headerOf s) room) form-numbered ∙ rw (eq-eqb (firstOf (formTests s)) 0 f) in
       split ∙ rw (e, ne-eqb (firstOf (roomTests (headerOf s) room)) 0 n)
 
   pub figures-last : firstOf (formTests s) ≡ 0 → firstOf (roomTests (headerOf s) room) ≡ 0 → refusal s room ≡ firstOf (figureTests (monthOf s))
   figures-last f r =
       let e : firstOf (formTests s ++ roomTests (headerOf s) room) ≡ firstOf (roomTests (headerOf s) room) =
-          first-append (formTests s) (roomTests (headerOf s) room) form-numbered ∙ rw (eq-eqb (firstOf (formTests s)) 0 f) in
+      first-append (formTests s) (roomTests (headerOf s) room) form-numbered ∙ rw (eq-eqb (firstOf (formTests s)) 0 f) in
       split ∙ rw (e, eq-eqb (firstOf (roomTests (headerOf s) room)) 0 r)
 
 -- A refused sheet: its number, and the buffer as it was.

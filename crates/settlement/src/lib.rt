@@ -2,10 +2,15 @@
 ghost use mathlib.Core.Path.{_≡_};
 ghost use lib.ListN.{length};
 ghost use Rattle.rules.specs.Refusals.{refusal};
-ghost use Rattle.rules.specs.Outcome.{outcome, bufferAfter};
+ghost use Prim.Native.Nat.{_+_};
+ghost use Rattle.rules.specs.Outcome.{outcome, bufferAfter, hoursStretch, within};
 ghost use Rattle.settlement.specs.Said.{said, inC};
-
-use sheet::{figure_refusal, form_refusal, header, result_length, room_refusal};
+use contents::figure_refusal;
+use sheet::form_refusal;
+use sheet::header;
+use sheet::producer_hours;
+use sheet::result_length;
+use sheet::room_refusal;
 
 mod consumers;
 mod result;
@@ -48,7 +53,16 @@ pub fn settle(sheet: &[u8], result: &mut [u8]) -> Answer
     Answer::Written(result_length(h))
 }
 
-// The same for C: the count of bytes written, or minus the refusal's number (include/capacity.h).
+// Producer p's hours: that part of the lent sheet, and no copy. Empty where a number from 1 to 6 applies, or there is no producer p.
+pub fn hours_of(sheet: &[u8], p: u8) -> &[u8]
+    ensures { λ r. ⌜ now r ≡ within (hoursStretch (now (sheet .entry)) p) (now (sheet .entry)) ⌝ }
+    ensures place { λ r. ⌜ (r .ptr .0 ≡ sheet .entry .ptr .0)
+        × (r .ptr .1 ≡ hoursStretch (now (sheet .entry)) p .place + sheet .entry .ptr .1) ⌝ }
+{
+    producer_hours(sheet, p)
+}
+
+// The settlement for C: the count of bytes written, or minus the refusal's number (include/capacity.h).
 #[no_mangle]
 pub extern "C" fn capacity_settle(sheet: &[u8], result: &mut [u8]) -> i64
     ensures { λ r. ⌜ r ≡ inC (outcome (now (sheet .entry)) (length (now (result .entry)))) ⌝ }

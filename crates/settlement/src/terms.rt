@@ -9,12 +9,20 @@ ghost use Rattle.rules.specs.Cut.{summedCapacity};
 ghost use Rattle.rules.specs.Coefficients.{share, lessPenalty, coefficients};
 ghost use Rattle.producer.specs.Sums.{volumesOf, sumsOf};
 ghost use Rattle.settlement.specs.Carried.{termsAt, Known};
-
-use fields::{half, word};
+use fields::half;
+use fields::word;
 use figures::share;
-use producer::{
-    bids, control_count, hour_sums, less, less_penalty, overuse, penalty, plans, row_volumes, Sums, Volumes,
-};
+use producer::Sums;
+use producer::Volumes;
+use producer::bids;
+use producer::control_count;
+use producer::hour_sums;
+use producer::less;
+use producer::less_penalty;
+use producer::overuse;
+use producer::penalty;
+use producer::plans;
+use producer::row_volumes;
 use rules::Header;
 use sheet::producer_at;
 
@@ -28,11 +36,9 @@ pub struct Terms {
 fn k1_of(counted: u64, count: u64, deductible: u32, support: u64) -> u64
     requires { ⌜ average counted count ≤ 100000 ⌝ }
     requires { ⌜ support ≤ 3200000 ⌝ }
-    ensures {
-        λ r. ⌜ r
+    ensures { λ r. ⌜ r
         ≡ lessPenalty support
-        (bandOf (thousandths (average counted count - deductible) deductible) * (average counted count - deductible)) ⌝
-    }
+        (bandOf (thousandths (average counted count - deductible) deductible) * (average counted count - deductible)) ⌝ }
 {
     let over = overuse(counted, count, deductible) as u32;
     less_penalty(support as u32, penalty(over, deductible))

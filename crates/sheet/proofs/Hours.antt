@@ -6,23 +6,15 @@ use native.Mathlib.Nat.{add-sub-cancel-left}
 use native.Mathlib.Omega.{arith}
 use lib.ListN.{length, take, drop}
 use Rattle.rules.specs.declared.Header.{Header}
-use Rattle.rules.specs.Range.{any}
-use Rattle.rules.specs.Sheet.{headerOf, hourAt, monthUnder}
-use Rattle.rules.specs.Refusals.{highHour, formTests, firstOf}
+use Rattle.rules.specs.Sheet.{headerOf, hourAt}
+use Rattle.rules.specs.Refusals.{formTests, firstOf}
 use Rattle.rules.specs.Outcome.{hoursStretch, within}
-use Rattle.laws.proofs.Range.{any-same}
 use Rattle.laws.proofs.Refusals.{stretch-there, stretch-ends}
-use Rattle.sheet.specs.Contents.{highAt, highIn}
 
 -- Hour i begins 12 bytes after the hour before it.
 pub hour-there : (h : Header) (p i : ℕ) {at : ℕ} → at ≡ hourAt h p 0 → hourAt h p i ≡ at + 12 * i
 unfolding hourAt
 hour-there h p i e = omega (arith, e)
-
-pub high-there : (s : List ℕ) (h : Header) (p n : ℕ) {at : ℕ} → at ≡ hourAt h p 0
-    → any (highIn s at) n ≡ any (highHour (monthUnder h s .producer p)) n
-unfolding highIn highAt highHour
-high-there s h p n e = any-same _ _ n (λ i l. rw (hour-there h p i e))
 
 -- No stretch: nothing, from the sheet's start.
 pub no-stretch : (s : List ℕ) (p q : ℕ) → hoursStretch s p ≡ record { place = 0; bytes = 0 }

@@ -2,14 +2,16 @@
 ghost use mathlib.Core.Path.{_≡_};
 ghost use mathlib.Core.Bool.{cond};
 ghost use Rattle.rules.specs.Refusals.{badMonth, tooMany, formTests, roomTests, firstOf};
-
-use crate::{header, result_length, sheet_length};
+use crate::header;
+use crate::result_length;
+use crate::sheet_length;
 use calendar::holiday_past;
-use fields::{byte, word};
+use fields::byte;
+use fields::word;
 use rules::Header;
 
 // The number where its test applies, otherwise what the tests after it say.
-pub(crate) fn first(number: u8, applies: bool, rest: u8) -> u8
+pub fn first(number: u8, applies: bool, rest: u8) -> u8
     ensures { λ r. ⌜ r ≡ cond applies number rest ⌝ }
 {
     if applies { number } else { rest }

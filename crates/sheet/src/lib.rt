@@ -3,16 +3,18 @@ ghost use mathlib.Core.Path.{_≡_};
 ghost use Prim.Native.Nat.{_≤_};
 ghost use Rattle.rules.specs.Sheet.{headerOf, producerAt, hourAt, rowAt, consumerAt, sheetLength, rowOf, consumerOf};
 ghost use Rattle.rules.specs.Result.{resultLength};
+use fields::byte;
+use fields::word;
+use rules::Consumer;
+use rules::Header;
+use rules::Row;
 
-use fields::{byte, word};
-use rules::{Consumer, Header, Row};
-
-mod contents;
 mod form;
 mod stretch;
 
-pub use contents::figure_refusal;
-pub use form::{form_refusal, room_refusal};
+pub use form::first;
+pub use form::form_refusal;
+pub use form::room_refusal;
 pub use stretch::producer_hours;
 
 // The header's month and counts.
@@ -44,21 +46,21 @@ pub fn hours_at(h: Header, p: u8) -> usize
 }
 
 // Where row j begins.
-pub fn row_at(h: Header, j: u8) -> usize
+pub(crate) fn row_at(h: Header, j: u8) -> usize
     ensures { λ r. ⌜ (r ≡ rowAt h j) × (r ≤ 20002550) ⌝ }
 {
     producer_at(h, h.producers) + 10 * (j as usize)
 }
 
 // Where consumer c begins.
-pub fn consumer_at(h: Header, c: u8) -> usize
+pub(crate) fn consumer_at(h: Header, c: u8) -> usize
     ensures { λ r. ⌜ (r ≡ consumerAt h c) × (r ≤ 20006375) ⌝ }
 {
     row_at(h, h.rows) + 15 * (c as usize)
 }
 
 // The length that the header asks of the sheet.
-pub fn sheet_length(h: Header) -> usize
+pub(crate) fn sheet_length(h: Header) -> usize
     ensures { λ r. ⌜ r ≡ sheetLength h ⌝ }
 {
     consumer_at(h, h.consumers)

@@ -2,16 +2,14 @@
 ghost use mathlib.Core.Path.{_≡_};
 ghost use Prim.Native.Nat.{_+_};
 ghost use Rattle.rules.specs.Outcome.{hoursStretch, within};
-
 use crate::form::form_refusal;
-use crate::{header, hours_at};
+use crate::header;
+use crate::hours_at;
 
 // Producer p's hours: that part of the lent sheet, and no copy. Empty where a number from 1 to 6 applies, or there is no producer p.
 pub fn producer_hours(s: &[u8], p: u8) -> &[u8]
     ensures { λ r. ⌜ now r ≡ within (hoursStretch (now (s .entry)) p) (now (s .entry)) ⌝ }
-    ensures place {
-        λ r. ⌜ (r .ptr .0 ≡ s .entry .ptr .0) × (r .ptr .1 ≡ hoursStretch (now (s .entry)) p .place + s .entry .ptr .1) ⌝
-    }
+    ensures place { λ r. ⌜ (r .ptr .0 ≡ s .entry .ptr .0) × (r .ptr .1 ≡ hoursStretch (now (s .entry)) p .place + s .entry .ptr .1) ⌝ }
 {
     if form_refusal(s) != 0 {
         return &s[..0];

@@ -4,7 +4,6 @@ use Rattle.laws.proofs.Fields.{read-past, read-joined}
 use borrow.Author.Needs.{needs}
 use Rattle.fields.proofs.half.Statement.{statement}
 use Rattle.fields.proofs.half.Tie as tie
-use Rattle.fields.proofs.byte.Reads as byte-reads
 
 byte-requires : tie.Need-byte-requires
 byte-requires c κs = search needs

@@ -4,8 +4,6 @@ use native.Mathlib.Nat.{add-zero}
 use borrow.Author.Needs.{needs}
 use Rattle.fields.proofs.word.Statement.{statement}
 use Rattle.fields.proofs.word.Tie as tie
-use Rattle.fields.proofs.wide.Reads as wide-reads
-use Rattle.fields.proofs.word_at_end.Reads as word-at-end-reads
 
 word-at-end-requires : tie.Need-word-at-end-requires
 word-at-end-requires c κs = search needs

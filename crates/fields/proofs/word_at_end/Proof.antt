@@ -4,7 +4,6 @@ use Rattle.laws.proofs.Fields.{read-past, read-joined}
 use borrow.Author.Needs.{needs}
 use Rattle.fields.proofs.word_at_end.Statement.{statement}
 use Rattle.fields.proofs.word_at_end.Tie as tie
-use Rattle.fields.proofs.half.Reads as half-reads
 
 half-requires : tie.Need-half-requires
 half-requires c κs = search needs

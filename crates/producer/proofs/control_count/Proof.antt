@@ -7,7 +7,6 @@ use Rattle.rules.specs.Range.{sum}
 use Rattle.rules.specs.ControlHours.{counted, once, controlSum, controlCount}
 use Rattle.producer.proofs.control_count.Statement.{statement}
 use Rattle.producer.proofs.control_count.Tie as tie
-use Rattle.producer.proofs.counted_of.Reads as counted-of-reads
 
 abbrev Inv-loop : tie.InvT-loop
 Inv-loop h n found₀ i₀ found i = (found ≡ sum (counted h once) i) × (found ≤ 4294967295 * i) × (i ≤ n) × (n ≤ 6120)

@@ -2,7 +2,6 @@ use Rattle.rules.specs.ControlHours.{controlHour}
 use borrow.Author.Needs.{needs}
 use Rattle.producer.proofs.control_hour.Statement.{statement}
 use Rattle.producer.proofs.control_hour.Tie as tie
-use Rattle.calendar.proofs.control_day.Reads as control-day-reads
 
 cast-control-day : tie.Need-cast-control-day
 cast-control-day c = search needs

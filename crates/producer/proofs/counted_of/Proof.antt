@@ -4,7 +4,6 @@ use mathlib.Core.Path.{sym, _∙_}
 use borrow.Author.Needs.{needs}
 use Rattle.producer.proofs.counted_of.Statement.{statement}
 use Rattle.producer.proofs.counted_of.Tie as tie
-use Rattle.producer.proofs.control_hour.Reads as control-hour-reads
 
 control-hour-requires : tie.Need-control-hour-requires
 control-hour-requires c κs = search needs

@@ -11,13 +11,9 @@ use Rattle.rules.specs.ControlHours.{controlSum}
 use Rattle.producer.proofs.Turns.{asked-there, met-there, counted-there}
 use Rattle.producer.proofs.hour_sums.Statement.{statement}
 use Rattle.producer.proofs.hour_sums.Tie as tie
-use Rattle.fields.proofs.word.Reads as word-reads
-use Rattle.producer.proofs.counted_of.Reads as counted-of-reads
-use Rattle.producer.proofs.smaller.Reads as smaller-reads
-use Rattle.sheet.proofs.hours_at.Reads as hours-at-reads
 
 abbrev Inv-loop : tie.InvT-loop
-Inv-loop s h p summed start n asked₀ met₀ counted₀ i₀ asked met counted i = 
+Inv-loop s h p summed start n asked₀ met₀ counted₀ i₀ asked met counted i =
     (asked ≡ sum (Coefficients.asked (monthUnder h s .producer p) summed) i)
     × (met ≡ sum (Coefficients.met (monthUnder h s .producer p) summed) i)
     × (counted ≡ sum (ControlHours.counted h (monthUnder h s .producer p .outsideUse)) i)
@@ -94,9 +90,8 @@ loop-less : tie.Need-loop-less Inv-loop μ-loop
 loop-less c = omega arith
 
 loop-again : tie.Need-loop-again Inv-loop μ-loop
-loop-again c = 
-    let m = c .before .before .before .before .smaller .ensures ∙ asked-there _ _ _ _ (c .before .before .before .before .before .before .before .before .before .hours-at .ensures .0) _ (c .before .before .before .before .before .word .ensures) in
-    (
+loop-again c =
+    let m = c .before .before .before .before .smaller .ensures ∙ asked-there _ _ _ _ (c .before .before .before .before .before .before .before .before .before .hours-at .ensures .0) _ (c .before .before .before .before .before .word .ensures) in (
       sum-fold _ _ (c .before .before .before .before .before .before .before .loop .inv .0) m,
       sum-fold _ _ (c .before .before .before .before .before .before .before .loop .inv .1) (c .before .before .smaller2 .ensures ∙ met-there _ _ _ _ (c .before .before .before .before .before .before .before .before .before .hours-at .ensures .0) _ m (c .before .before .before .word2 .ensures)),
       sum-fold _ _ (c .before .before .before .before .before .before .before .loop .inv .2) (c .counted-of .ensures .0 ∙ counted-there _ _ _ _ (c .before .before .before .before .before .before .before .before .before .hours-at .ensures .0) (c .before .word3 .ensures)),
@@ -109,9 +104,8 @@ loop-again c =
 
 returns : tie.Need-returns Inv-loop μ-loop
 unfolding controlSum
-returns c = 
-    rw
-    (
+returns c =
+    rw (
       sum-done _ {n = 24 * c .before .before .before .before .before .args .h .days} (omega arith) (omega arith) (c .before .loop .inv .0),
       sum-done _ {n = 24 * c .before .before .before .before .before .args .h .days} (omega arith) (omega arith) (c .before .loop .inv .1),
       sum-done _ {n = 24 * c .before .before .before .before .before .args .h .days} (omega arith) (omega arith) (c .before .loop .inv .2),

@@ -11,12 +11,9 @@ use lib.Dec.{eqb}
 use mathlib.Core.Bool.{not, _&&_}
 use Rattle.producer.proofs.row_volumes.Statement.{statement}
 use Rattle.producer.proofs.row_volumes.Tie as tie
-use Rattle.producer.proofs.bilateral_of.Reads as bilateral-of-reads
-use Rattle.producer.proofs.support_of.Reads as support-of-reads
-use Rattle.sheet.proofs.row.Reads as row-reads
 
 abbrev Inv-loop : tie.InvT-loop
-Inv-loop s h p support₀ bilateral₀ j₀ support bilateral j = 
+Inv-loop s h p support₀ bilateral₀ j₀ support bilateral j =
     (support ≡ sum (ownSupport (monthUnder h s) p) j)
     × (bilateral ≡ sum (ownBilateral (monthUnder h s) p) j)
     × (support ≤ 4294967295 * j)
@@ -52,22 +49,20 @@ loop-less c = omega arith
 
 loop-again : tie.Need-loop-again Inv-loop μ-loop
 unfolding ownSupport ownBilateral owns support bilateral
-loop-again c = 
-    (
-      sum-fold _ _ (c .before .before .before .before .before .loop .inv .0)
+loop-again c = (
+  sum-fold _ _ (c .before .before .before .before .before .loop .inv .0)
       (c .before .support-of .ensures .0 ∙ ap (λ (r : Row). when (eqb (r .producer) (c .before .before .before .before .before .before .before .args .p) && eqb (r .consumer) 255) (r .volume)) (c .before .before .row .ensures)),
-      sum-fold _ _ (c .before .before .before .before .before .loop .inv .1)
+  sum-fold _ _ (c .before .before .before .before .before .loop .inv .1)
       (c .bilateral-of .ensures .0 ∙ ap (λ (r : Row). when (eqb (r .producer) (c .before .before .before .before .before .before .before .args .p) && not (eqb (r .consumer) 255)) (r .volume)) (c .before .before .row .ensures)),
-      omega arith,
-      omega arith,
-      omega arith,
-    )
+  omega arith,
+  omega arith,
+  omega arith,
+)
 
 returns : tie.Need-returns Inv-loop μ-loop
 unfolding supportVolume bilateralVolume
-returns c = 
-    rw
-    (
+returns c =
+    rw (
       sum-done _ {n = c .before .before .before .before .args .h .rows} (omega arith) (omega arith) (c .before .before .loop .inv .0),
       sum-done _ {n = c .before .before .before .before .args .h .rows} (omega arith) (omega arith) (c .before .before .loop .inv .1),
     )

@@ -5,7 +5,6 @@ use Rattle.settlement.proofs.Signed.{number-fits, number-back, count-fi
 use borrow.Author.Needs.{needs}
 use Rattle.settlement.proofs.capacity_settle.Statement.{statement}
 use Rattle.settlement.proofs.capacity_settle.Tie as tie
-use Rattle.settlement.proofs.settle.Reads as settle-reads
 
 settle-requires : tie.Need-settle-requires
 settle-requires c κs = search needs
@@ -23,7 +22,7 @@ enum-known-answer-2 : tie.Need-enum-known-answer-2
 enum-known-answer-2 c = search needs
 
 cast-result-2 : tie.Need-cast-result-2
-cast-result-2 c = 
+cast-result-2 c =
     let e = sym (ap said (c .before .answer2 .given .1)) ∙ c .before .before .before .before .before .settle .ensures .0 in
     count-fits _ (count-le _ _ _ e)
 
@@ -31,7 +30,7 @@ same-length : tie.Need-same-length
 same-length c = search needs
 
 returns : tie.Need-returns
-returns c = 
+returns c =
     let e = sym (ap said (c .before .answer .given .1)) ∙ c .before .before .before .before .before .settle .ensures .0 in
     (number-back _ _ (omega arith) e, c .before .before .before .before .before .settle .ensures .1)
 
@@ -39,7 +38,7 @@ same-length-2 : tie.Need-same-length-2
 same-length-2 c = search needs
 
 returns-2 : tie.Need-returns-2
-returns-2 c = 
+returns-2 c =
     let e = sym (ap said (c .before .answer2 .given .1)) ∙ c .before .before .before .before .before .settle .ensures .0 in
     (count-back _ _ (count-le _ _ _ e) e, c .before .before .before .before .before .settle .ensures .1)
 

@@ -6,10 +6,6 @@ use Rattle.settlement.proofs.Answered.{form-first, room-first, figures-
 use borrow.Author.Needs.{needs}
 use Rattle.settlement.proofs.refusal_of.Statement.{statement}
 use Rattle.settlement.proofs.refusal_of.Tie as tie
-use Rattle.sheet.proofs.figure_refusal.Reads as figure-refusal-reads
-use Rattle.sheet.proofs.form_refusal.Reads as form-refusal-reads
-use Rattle.sheet.proofs.room_refusal.Reads as room-refusal-reads
-use Rattle.sheet.proofs.header.Reads as header-reads
 
 form-refusal-requires : tie.Need-form-refusal-requires
 form-refusal-requires c κs = search needs
@@ -24,7 +20,7 @@ room-refusal-requires : tie.Need-room-refusal-requires
 room-refusal-requires c κs = search needs
 
 returns-2 : tie.Need-returns-2
-returns-2 c = 
+returns-2 c =
     let e = c .before .room-refusal .ensures ∙ ap (λ (h : Header). firstOf (roomTests h (c .before .before .before .before .before .before .args .room))) (c .before .before .header .ensures) in
     e ∙ sym (room-first (c .before .before .before .before .before .before .args .s .now) (c .before .before .before .before .before .before .args .room) (sym (c .before .before .before .before .form-refusal .ensures) ∙ c .before .before .before .if1 .left) (λ z. c .if2 .taken (e ∙ z)))
 
@@ -32,7 +28,7 @@ figure-refusal-requires : tie.Need-figure-refusal-requires
 figure-refusal-requires c κs = search needs
 
 returns-3 : tie.Need-returns-3
-returns-3 c = 
+returns-3 c =
     let r = sym (c .before .before .room-refusal .ensures ∙ ap (λ (h : Header). firstOf (roomTests h (c .before .before .before .before .before .before .before .args .room))) (c .before .before .before .header .ensures)) ∙ c .before .if2 .left in
     c .figure-refusal .ensures
     ∙ ap (λ (h : Header). firstOf (figureTests (monthUnder h (c .before .before .before .before .before .before .before .args .s .now)))) (c .before .before .before .header .ensures)

@@ -5,10 +5,6 @@ use Rattle.settlement.proofs.Answered.{turned-down, settled}
 use borrow.Author.Needs.{needs}
 use Rattle.settlement.proofs.settle.Statement.{statement}
 use Rattle.settlement.proofs.settle.Tie as tie
-use Rattle.settlement.proofs.refusal_of.Reads as refusal-of-reads
-use Rattle.settlement.proofs.result.write_result.Reads as write-result-reads
-use Rattle.sheet.proofs.header.Reads as header-reads
-use Rattle.sheet.proofs.result_length.Reads as result-length-reads
 
 refusal-of-requires : tie.Need-refusal-of-requires
 refusal-of-requires c κs = search needs
@@ -20,7 +16,7 @@ header-requires : tie.Need-header-requires
 header-requires c κs = search needs
 
 write-result-requires : tie.Need-write-result-requires
-write-result-requires c κs = 
+write-result-requires c κs =
     let a = c .before .before .before .before .before .before .args in
     let w = limits (a .sheet .now) (length (a .result .now)) (sym (c .before .before .before .refusal-of .ensures) ∙ c .before .before .if1 .left) in
     rw (c .before .header .ensures) (w .month, w .enough-room)
@@ -32,7 +28,7 @@ same-length : tie.Need-same-length
 same-length c = search needs
 
 returns-2 : tie.Need-returns-2
-returns-2 c = 
+returns-2 c =
     let a = c .before .before .before .before .before .before .before .before .before .before .args in
     settled (a .sheet .now) (a .result .now) _ _ _ (c .before .before .before .before .before .header .ensures) (sym (c .before .before .before .before .before .before .before .refusal-of .ensures) ∙ c .before .before .before .before .before .before .if1 .left) (c .result-length .ensures) (c .before .before .before .write-result .ensures)
 

@@ -1,9 +1,6 @@
 use borrow.Author.Needs.{needs}
 use Rattle.sheet.proofs.consumer.Statement.{statement}
 use Rattle.sheet.proofs.consumer.Tie as tie
-use Rattle.fields.proofs.byte.Reads as byte-reads
-use Rattle.fields.proofs.word.Reads as word-reads
-use Rattle.sheet.proofs.consumer_at.Reads as consumer-at-reads
 
 consumer-at-requires : tie.Need-consumer-at-requires
 consumer-at-requires c κs = search needs

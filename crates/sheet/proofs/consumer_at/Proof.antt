@@ -3,7 +3,6 @@ use Rattle.rules.specs.Sheet.{consumerAt}
 use borrow.Author.Needs.{needs}
 use Rattle.sheet.proofs.consumer_at.Statement.{statement}
 use Rattle.sheet.proofs.consumer_at.Tie as tie
-use Rattle.sheet.proofs.row_at.Reads as row-at-reads
 
 row-at-requires : tie.Need-row-at-requires
 row-at-requires c κs = search needs

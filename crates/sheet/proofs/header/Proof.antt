@@ -1,8 +1,6 @@
 use borrow.Author.Needs.{needs}
 use Rattle.sheet.proofs.header.Statement.{statement}
 use Rattle.sheet.proofs.header.Tie as tie
-use Rattle.fields.proofs.byte.Reads as byte-reads
-use Rattle.fields.proofs.word.Reads as word-reads
 
 byte-requires : tie.Need-byte-requires
 byte-requires c κs = search needs

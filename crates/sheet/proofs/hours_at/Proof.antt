@@ -3,7 +3,6 @@ use Rattle.rules.specs.Sheet.{hourAt}
 use borrow.Author.Needs.{needs}
 use Rattle.sheet.proofs.hours_at.Statement.{statement}
 use Rattle.sheet.proofs.hours_at.Tie as tie
-use Rattle.sheet.proofs.producer_at.Reads as producer-at-reads
 
 producer-at-requires : tie.Need-producer-at-requires
 producer-at-requires c κs = search needs

@@ -1,9 +1,6 @@
 use borrow.Author.Needs.{needs}
 use Rattle.sheet.proofs.row.Statement.{statement}
 use Rattle.sheet.proofs.row.Tie as tie
-use Rattle.fields.proofs.byte.Reads as byte-reads
-use Rattle.fields.proofs.word.Reads as word-reads
-use Rattle.sheet.proofs.row_at.Reads as row-at-reads
 
 row-at-requires : tie.Need-row-at-requires
 row-at-requires c κs = search needs

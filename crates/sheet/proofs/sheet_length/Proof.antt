@@ -2,7 +2,6 @@ use Rattle.rules.specs.Sheet.{sheetLength}
 use borrow.Author.Needs.{needs}
 use Rattle.sheet.proofs.sheet_length.Statement.{statement}
 use Rattle.sheet.proofs.sheet_length.Tie as tie
-use Rattle.sheet.proofs.consumer_at.Reads as consumer-at-reads
 
 consumer-at-requires : tie.Need-consumer-at-requires
 consumer-at-requires c κs = search needs

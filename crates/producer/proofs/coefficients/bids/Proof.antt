@@ -4,8 +4,6 @@ use Prim.Native.Nat.{max}
 use borrow.Author.Needs.{needs}
 use Rattle.producer.proofs.coefficients.bids.Statement.{statement}
 use Rattle.producer.proofs.coefficients.bids.Tie as tie
-use Rattle.figures.proofs.share.Reads as share-reads
-use Rattle.producer.proofs.coefficients.missing.Reads as missing-reads
 
 missing-requires : tie.Need-missing-requires
 missing-requires c κs = search needs
@@ -20,12 +18,12 @@ share-requires-2 : tie.Need-share-requires-2
 share-requires-2 c κs = search needs
 
 returns : tie.Need-returns
-returns c = 
+returns c =
     let e : max (c .before .before .before .args .up) (c .before .before .before .args .down) ≡ c .before .before .before .args .down = omega arith in
     rw (c .share .ensures, c .before .missing .ensures, e)
 
 returns-2 : tie.Need-returns-2
-returns-2 c = 
+returns-2 c =
     let e : max (c .before .before .before .args .up) (c .before .before .before .args .down) ≡ c .before .before .before .args .up = omega arith in
     rw (c .share2 .ensures, c .before .missing2 .ensures, e)
 

@@ -5,8 +5,6 @@ use Rattle.laws.proofs.Coefficients.{penalty-of-none, penalty-of-some}
 use borrow.Author.Needs.{needs}
 use Rattle.producer.proofs.coefficients.less_penalty.Statement.{statement}
 use Rattle.producer.proofs.coefficients.less_penalty.Tie as tie
-use Rattle.figures.proofs.nearest.Reads as nearest-reads
-use Rattle.producer.proofs.coefficients.less.Reads as less-reads
 
 returns : tie.Need-returns
 unfolding lessPenalty
@@ -28,7 +26,7 @@ nearest-requires : tie.Need-nearest-requires
 nearest-requires c κs = search needs
 
 returns-3 : tie.Need-returns-3
-returns-3 c = 
+returns-3 c =
     let some : 0 < c .before .before .before .args .support = omega arith in
     rw (c .nearest .ensures, c .before .less .ensures, penalty-of-some _ _ some)
 

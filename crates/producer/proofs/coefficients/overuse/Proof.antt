@@ -2,8 +2,6 @@ use Rattle.laws.proofs.Coefficients.{average-is}
 use borrow.Author.Needs.{needs}
 use Rattle.producer.proofs.coefficients.overuse.Statement.{statement}
 use Rattle.producer.proofs.coefficients.overuse.Tie as tie
-use Rattle.figures.proofs.nearest.Reads as nearest-reads
-use Rattle.producer.proofs.coefficients.less.Reads as less-reads
 
 nearest-requires : tie.Need-nearest-requires
 nearest-requires c κs = search needs

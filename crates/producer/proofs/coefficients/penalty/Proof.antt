@@ -4,8 +4,6 @@ use native.Mathlib.Nat.{mul-le-mul}
 use borrow.Author.Needs.{needs}
 use Rattle.producer.proofs.coefficients.penalty.Statement.{statement}
 use Rattle.producer.proofs.coefficients.penalty.Tie as tie
-use Rattle.figures.proofs.factor.Reads as factor-reads
-use Rattle.figures.proofs.thousandths.Reads as thousandths-reads
 
 thousandths-requires : tie.Need-thousandths-requires
 thousandths-requires c κs = search needs

@@ -1,8 +1,6 @@
 use borrow.Author.Needs.{needs}
 use Rattle.producer.proofs.coefficients.plans.Statement.{statement}
 use Rattle.producer.proofs.coefficients.plans.Tie as tie
-use Rattle.figures.proofs.share.Reads as share-reads
-use Rattle.producer.proofs.coefficients.missing.Reads as missing-reads
 
 missing-requires : tie.Need-missing-requires
 missing-requires c κs = search needs

@@ -8,8 +8,6 @@ use Rattle.settlement.specs.Carried.{Known}
 use Rattle.settlement.proofs.Cuts.{known-more}
 use Rattle.settlement.proofs.terms.all_terms.Statement.{statement}
 use Rattle.settlement.proofs.terms.all_terms.Tie as tie
-use Rattle.producer.proofs.control_count.Reads as control-count-reads
-use Rattle.settlement.proofs.terms.terms_of.Reads as terms-of-reads
 
 abbrev Inv-loop : tie.InvT-loop
 Inv-loop s h count terms₀ p₀ terms p = Known (monthUnder h s) 0 p terms × (p ≤ h .producers) × (count ≡ controlCount h)
@@ -45,7 +43,7 @@ loop-again : tie.Need-loop-again Inv-loop μ-loop
 loop-again c = (known-more _ _ _ _ (c .before .before .before .loop .inv .0) (omega (arith, c .before .before .before .before .before .before .pre .header .producers)) (c .terms-of .ensures), omega arith, c .before .before .before .loop .inv .2)
 
 returns : tie.Need-returns Inv-loop μ-loop
-returns c = 
+returns c =
     let e : c .before .before .loop .p ≡ c .before .before .before .before .before .args .h .producers = omega arith in
     rw e at (c .before .before .loop .inv .0)
 

@@ -1,9 +1,6 @@
 use borrow.Author.Needs.{needs}
 use Rattle.settlement.proofs.terms.k1_of.Statement.{statement}
 use Rattle.settlement.proofs.terms.k1_of.Tie as tie
-use Rattle.producer.proofs.less_penalty.Reads as less-penalty-reads
-use Rattle.producer.proofs.overuse.Reads as overuse-reads
-use Rattle.producer.proofs.penalty.Reads as penalty-reads
 
 overuse-requires : tie.Need-overuse-requires
 overuse-requires c κs = search needs

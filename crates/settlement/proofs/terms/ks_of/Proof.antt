@@ -6,12 +6,6 @@ use Rattle.settlement.proofs.Bounds.{support-le, use-average-le, asked-
 use borrow.Author.Needs.{needs}
 use Rattle.settlement.proofs.terms.ks_of.Statement.{statement}
 use Rattle.settlement.proofs.terms.ks_of.Tie as tie
-use Rattle.fields.proofs.half.Reads as half-reads
-use Rattle.fields.proofs.word.Reads as word-reads
-use Rattle.producer.proofs.bids.Reads as bids-reads
-use Rattle.producer.proofs.plans.Reads as plans-reads
-use Rattle.settlement.proofs.terms.k1_of.Reads as k1-of-reads
-use Rattle.settlement.proofs.terms.k4_of.Reads as k4-of-reads
 
 cast-hours : tie.Need-cast-hours
 cast-hours c = search needs
@@ -26,7 +20,7 @@ word-requires : tie.Need-word-requires
 word-requires c κs = search needs
 
 k1-of-requires : tie.Need-k1-of-requires
-k1-of-requires c κs = 
+k1-of-requires c κs =
     let a = c .before .before .before in
     let m = (monthUnder (c .before .before .before .args .h) (c .before .before .before .args .s .now)) in
     (rw (a .pre .1 .1 .1 .0, a .pre .1 .1 .1 .1) (use-average-le m (a .pre .0) (a .args .p) (a .pre .1 .0 .0)), rw (a .pre .1 .1 .0) (support-le m (a .pre .0) (a .args .p)))
@@ -56,7 +50,7 @@ cast-t19 : tie.Need-cast-t19
 cast-t19 c = search needs
 
 k4-of-requires : tie.Need-k4-of-requires
-k4-of-requires c κs = 
+k4-of-requires c κs =
     let a = c .before .before .before .before .before .before .before .before in
     let m = (monthUnder (c .before .before .before .before .before .before .before .before .args .h) (c .before .before .before .before .before .before .before .before .args .s .now)) in
     rw (a .pre .1 .1 .1 .0)
@@ -118,10 +112,9 @@ cast-t38 c = search needs
 
 returns : tie.Need-returns
 unfolding coefficients inOrder k1 penalty overuse controlAverage k2 k4 k5
-returns c = 
+returns c =
     let a = c .before .before .before .before .before .before .before .before .before .before .before .before .before .before .before .before in
-    rw
-    (
+    rw (
       c .before .before .before .before .before .before .before .before .before .before .before .before .k1-of .ensures,
       c .before .before .before .before .before .before .before .before .before .bids .ensures,
       c .before .before .before .before .before .before .before .k4-of .ensures,

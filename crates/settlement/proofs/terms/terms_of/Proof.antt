@@ -10,12 +10,6 @@ use Rattle.settlement.proofs.Cuts.{summed-is, left-first}
 use borrow.Author.Needs.{needs}
 use Rattle.settlement.proofs.terms.terms_of.Statement.{statement}
 use Rattle.settlement.proofs.terms.terms_of.Tie as tie
-use Rattle.fields.proofs.word.Reads as word-reads
-use Rattle.producer.proofs.less.Reads as less-reads
-use Rattle.producer.proofs.hour_sums.Reads as hour-sums-reads
-use Rattle.producer.proofs.row_volumes.Reads as row-volumes-reads
-use Rattle.settlement.proofs.terms.ks_of.Reads as ks-of-reads
-use Rattle.sheet.proofs.producer_at.Reads as producer-at-reads
 
 producer-at-requires : tie.Need-producer-at-requires
 producer-at-requires c κs = search needs
@@ -42,12 +36,11 @@ hour-sums-requires : tie.Need-hour-sums-requires
 hour-sums-requires c κs = search needs
 
 ks-of-requires : tie.Need-ks-of-requires
-ks-of-requires c κs = 
+ks-of-requires c κs =
     let a = c .before .before .before .before .before .before in
     let m = (monthUnder (c .before .before .before .before .before .before .args .h) (c .before .before .before .before .before .before .args .s .now)) in
     let at = c .before .before .before .before .producer-at .ensures in
-    let d = c .before .word .ensures ∙ ap (λ (x : ℕ). bigEndian 4 (a .args .s .now) (x + 4)) (at .0) in
-    (
+    let d = c .before .word .ensures ∙ ap (λ (x : ℕ). bigEndian 4 (a .args .s .now) (x + 4)) (at .0) in (
       a .pre .0,
       (
         (a .pre .1 .0, at .0, at .1),
@@ -83,15 +76,14 @@ less-requires-2 : tie.Need-less-requires-2
 less-requires-2 c κs = search needs
 
 returns : tie.Need-returns
-returns c = 
+returns c =
     let a = c .before .before .before .before .before .before .before .before .before .before .before in
     let m = (monthUnder (c .before .before .before .before .before .before .before .before .before .before .before .args .h) (c .before .before .before .before .before .before .before .before .before .before .before .args .s .now)) in
     let at = c .before .before .before .before .before .before .before .before .before .producer-at .ensures .0 in
     let d = c .before .before .before .before .before .before .word .ensures ∙ ap (λ (x : ℕ). bigEndian 4 (a .args .s .now) (x + 4)) at in
     let own = c .before .before .before .word2 .ensures ∙ ap (λ (x : ℕ). bigEndian 4 (a .args .s .now) (x + 8)) at in
     let attested = c .before .word3 .ensures ∙ ap (λ (x : ℕ). bigEndian 4 (a .args .s .now) x) at in
-    rw
-    (
+    rw (
       c .less2 .ensures,
       c .before .before .less .ensures,
       summed-is m (a .args .p) _ _ (c .before .before .before .before .before .before .before .before .row-volumes .ensures) d,

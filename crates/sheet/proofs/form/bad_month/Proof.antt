@@ -3,7 +3,6 @@ use Rattle.rules.specs.Refusals.{oneOf, badMonth}
 use borrow.Author.Needs.{needs}
 use Rattle.sheet.proofs.form.bad_month.Statement.{statement}
 use Rattle.sheet.proofs.form.bad_month.Tie as tie
-use Rattle.calendar.proofs.holiday_past.Reads as holiday-past-reads
 
 holiday-past-requires : tie.Need-holiday-past-requires
 holiday-past-requires c κs = search needs

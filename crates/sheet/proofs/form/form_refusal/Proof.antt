@@ -3,13 +3,6 @@ use Rattle.rules.specs.Sheet.{lengthField, version}
 use borrow.Author.Needs.{needs}
 use Rattle.sheet.proofs.form.form_refusal.Statement.{statement}
 use Rattle.sheet.proofs.form.form_refusal.Tie as tie
-use Rattle.fields.proofs.byte.Reads as byte-reads
-use Rattle.fields.proofs.word.Reads as word-reads
-use Rattle.sheet.proofs.form.bad_month.Reads as bad-month-reads
-use Rattle.sheet.proofs.form.first.Reads as first-reads
-use Rattle.sheet.proofs.form.too_many.Reads as too-many-reads
-use Rattle.sheet.proofs.header.Reads as header-reads
-use Rattle.sheet.proofs.sheet_length.Reads as sheet-length-reads
 
 header-requires : tie.Need-header-requires
 header-requires c κs = search needs
@@ -52,9 +45,8 @@ first-requires-6 c κs = search needs
 
 returns : tie.Need-returns
 unfolding firstOf formTests lengthField version
-returns c = 
-    rw
-    (
+returns c =
+    rw (
       c .first6 .ensures,
       c .before .first5 .ensures,
       c .before .before .first4 .ensures,

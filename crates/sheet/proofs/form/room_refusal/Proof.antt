@@ -2,8 +2,6 @@ use Rattle.rules.specs.Refusals.{roomTests, firstOf}
 use borrow.Author.Needs.{needs}
 use Rattle.sheet.proofs.form.room_refusal.Statement.{statement}
 use Rattle.sheet.proofs.form.room_refusal.Tie as tie
-use Rattle.sheet.proofs.form.first.Reads as first-reads
-use Rattle.sheet.proofs.result_length.Reads as result-length-reads
 
 result-length-requires : tie.Need-result-length-requires
 result-length-requires c κs = search needs

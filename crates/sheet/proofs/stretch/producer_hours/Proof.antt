@@ -5,9 +5,6 @@ use Rattle.sheet.proofs.Hours.{no-stretch, stretch-fits, stretch-list, 
 use borrow.Author.Needs.{needs}
 use Rattle.sheet.proofs.stretch.producer_hours.Statement.{statement}
 use Rattle.sheet.proofs.stretch.producer_hours.Tie as tie
-use Rattle.sheet.proofs.form.form_refusal.Reads as form-refusal-reads
-use Rattle.sheet.proofs.header.Reads as header-reads
-use Rattle.sheet.proofs.hours_at.Reads as hours-at-reads
 
 form-refusal-requires : tie.Need-form-refusal-requires
 form-refusal-requires c κs = search needs
@@ -16,9 +13,9 @@ slice-aggregate-result : tie.Need-slice-aggregate-result
 slice-aggregate-result c = search needs
 
 returns : tie.Need-returns
-returns c = 
+returns c =
     let p =
-        no-stretch _ _ _ (stretch-refused (c .before .before .before .before .args .s .now) (c .before .before .before .before .args .p) (λ z. c .before .if1 .taken (c .before .before .form-refusal .ensures ∙ z))) in
+    no-stretch _ _ _ (stretch-refused (c .before .before .before .before .args .s .now) (c .before .before .before .before .args .p) (λ z. c .before .if1 .taken (c .before .before .form-refusal .ensures ∙ z))) in
     (p .0, (refl, p .1))
 
 header-requires : tie.Need-header-requires
@@ -28,11 +25,11 @@ slice-aggregate-result-2 : tie.Need-slice-aggregate-result-2
 slice-aggregate-result-2 c = search needs
 
 returns-2 : tie.Need-returns-2
-returns-2 c = 
+returns-2 c =
     let p =
-        no-stretch _ _ _
-        (stretch-none (c .before .before .before .before .before .before .before .args .s .now) (c .before .before .before .before .before .before .before .args .p) (sym (c .before .before .before .before .before .form-refusal .ensures) ∙ c .before .before .before .before .if1 .left)
-        (rw (c .before .before .before .header .ensures) at (c .before .if2 .taken))) in
+    no-stretch _ _ _
+    (stretch-none (c .before .before .before .before .before .before .before .args .s .now) (c .before .before .before .before .before .before .before .args .p) (sym (c .before .before .before .before .before .form-refusal .ensures) ∙ c .before .before .before .before .if1 .left)
+    (rw (c .before .before .before .header .ensures) at (c .before .if2 .taken))) in
     (p .0, (refl, p .1))
 
 hours-at-requires : tie.Need-hours-at-requires
@@ -54,23 +51,22 @@ part-result-start : tie.Need-part-result-start
 part-result-start c = search needs
 
 part-result-end : tie.Need-part-result-end
-part-result-end c = 
+part-result-end c =
     omega (
       arith,
       stretch-fits (c .before .before .before .before .before .before .before .before .args .s .now) (c .before .before .before .before .before .before .before .before .args .p) (c .before .hours-at .result) (c .before .before .before .before .header .result) (c .before .before .before .before .header .ensures)
-      (c .before .hours-at .ensures .0) (sym (c .before .before .before .before .before .before .form-refusal .ensures) ∙ c .before .before .before .before .before .if1 .left) (c .before .before .if2 .left),
+          (c .before .hours-at .ensures .0) (sym (c .before .before .before .before .before .before .form-refusal .ensures) ∙ c .before .before .before .before .before .if1 .left) (c .before .before .if2 .left),
     )
 
 returns-3 : tie.Need-returns-3
-returns-3 c = 
-    let f = sym (c .before .before .before .before .before .before .before .form-refusal .ensures) ∙ c .before .before .before .before .before .before .if1 .left in
-    (
+returns-3 c =
+    let f = sym (c .before .before .before .before .before .before .before .form-refusal .ensures) ∙ c .before .before .before .before .before .before .if1 .left in (
       stretch-list (c .before .before .before .before .before .before .before .before .before .args .s .now) (c .before .before .before .before .before .before .before .before .before .args .p) (c .before .before .hours-at .result) (c .before .before .before .before .before .header .result) (c .before .before .before .before .before .header .ensures)
-      (c .before .before .hours-at .ensures .0) f (c .before .before .before .if2 .left),
+          (c .before .before .hours-at .ensures .0) f (c .before .before .before .if2 .left),
       (
         refl,
         stretch-place (c .before .before .before .before .before .before .before .before .before .args .s .now) (c .before .before .before .before .before .before .before .before .before .args .p) (c .before .before .hours-at .result) (c .before .before .before .before .before .header .result) (c .before .before .before .before .before .header .ensures)
-        (c .before .before .hours-at .ensures .0) f (c .before .before .before .if2 .left) _,
+            (c .before .before .hours-at .ensures .0) f (c .before .before .before .if2 .left) _,
       ),
     )
 

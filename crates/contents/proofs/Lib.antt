@@ -1,0 +1,2 @@
+pub mod HighHours
+pub mod Ceilings

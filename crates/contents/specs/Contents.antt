@@ -1,0 +1,39 @@
+-- What the tests of numbers 8 to 12 find, kind by kind.
+use Prim.Native.Nat.{ℕ, _+_, _*_}
+use mathlib.Core.Bool.{Bool}
+use mathlib.Core.List.{List, [], _∷_}
+use Rattle.rules.specs.Month.{Month}
+use Rattle.rules.specs.Fields.{bigEndian}
+use Rattle.rules.specs.Refusals.{oneOf, tooHigh, badShare, highProducer, highRow, badReference, highConsumer, tooDear, badFactor, someProducer, someRow, someConsumer}
+use Rattle.contents.specs.declared.ProducerTests.{ProducerTests}
+use Rattle.contents.specs.declared.RowTests.{RowTests}
+use Rattle.contents.specs.declared.ConsumerTests.{ConsumerTests}
+
+-- Of some producer: numbers 8 and 9.
+abbrev pub producerTests : Month → ProducerTests
+producerTests m = record { share = someProducer m (badShare (m .header)); high = someProducer m (highProducer (m .header)) }
+
+-- Of some row: numbers 9, 10 and 11.
+abbrev pub rowTests : Month → RowTests
+rowTests m =
+    record {
+      high = someRow m highRow;
+      reference = someRow m (badReference (m .header));
+      dear = someRow m (λ r. tooDear (r .price));
+    }
+
+-- Of some consumer: numbers 9, 11 and 12.
+abbrev pub consumerTests : Month → ConsumerTests
+consumerTests m =
+    record {
+      high = someConsumer m highConsumer;
+      dear = someConsumer m (λ c. tooDear (c .price));
+      factor = someConsumer m (badFactor (m .header));
+    }
+
+-- 9, of an hour whose figures begin at a place; and of hour i of hours that begin at one.
+unfoldable pub highAt : List ℕ → ℕ → Bool
+highAt s at = oneOf (tooHigh (bigEndian 4 s at) ∷ tooHigh (bigEndian 4 s (at + 4)) ∷ tooHigh (bigEndian 4 s (at + 8)) ∷ [])
+
+unfoldable pub highIn : List ℕ → ℕ → ℕ → Bool
+highIn s at i = highAt s (at + 12 * i)

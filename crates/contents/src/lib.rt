@@ -1,0 +1,219 @@
+// Numbers 8 to 12: the figures of producers, rows and consumers. Each record is read once.
+ghost use mathlib.Core.Path.{_≡_};
+ghost use mathlib.Core.Bool.{_||_};
+ghost use Prim.Native.Nat.{_≤_};
+ghost use lib.Dec.{ltb};
+ghost use Rattle.rules.specs.Units.{one};
+ghost use Rattle.rules.specs.Month.{hours};
+ghost use Rattle.rules.specs.Sheet.{producerAt, hourAt, producerOf, monthUnder};
+ghost use Rattle.rules.specs.Range.{any};
+ghost use Rattle.rules.specs.Refusals.{
+  badShare,
+  tooHigh,
+  highHour,
+  highProducer,
+  highRow,
+  highConsumer,
+  badReference,
+  tooDear,
+  badFactor,
+  figureTests,
+  firstOf,
+};
+ghost use Rattle.contents.specs.Contents.{producerTests, rowTests, consumerTests, highAt};
+use fields::half;
+use fields::word;
+use figures::Capacity;
+use figures::ONE;
+use figures::Price;
+use figures::Tenths;
+use figures::Tiyn;
+use rules::Consumer;
+use rules::Header;
+use rules::Row;
+use sheet::consumer;
+use sheet::first;
+use sheet::hours_at;
+use sheet::producer_at;
+use sheet::row;
+
+// What is wrong with some producer: number 8, number 9.
+struct ProducerTests {
+    share: bool,
+    high: bool,
+}
+
+// What is wrong with some row: numbers 9, 10, 11.
+struct RowTests {
+    high: bool,
+    reference: bool,
+    dear: bool,
+}
+
+// What is wrong with some consumer: numbers 9, 11, 12.
+struct ConsumerTests {
+    high: bool,
+    dear: bool,
+    factor: bool,
+}
+
+// 9, of one figure.
+fn too_high(tenths: u32) -> bool
+    ensures { λ r. ⌜ r ≡ tooHigh tenths ⌝ }
+{
+    let figure = Tenths::new(tenths as u64);
+    match figure {
+        Capacity::Within(_) => false,
+        Capacity::Above => true,
+    }
+}
+
+// 11, of one price.
+fn too_dear(price: u32) -> bool
+    ensures { λ r. ⌜ r ≡ tooDear price ⌝ }
+{
+    let figure = Tiyn::new(price as u64);
+    match figure {
+        Price::Within(_) => false,
+        Price::Above => true,
+    }
+}
+
+// 8, of one coefficient.
+fn above_one(k: u32) -> bool
+    ensures { λ r. ⌜ r ≡ ltb one k ⌝ }
+{
+    ONE < k as u64
+}
+
+// 8, of producer p.
+fn bad_share(s: &[u8], h: Header, p: u8) -> bool
+    ensures { λ r. ⌜ r ≡ badShare h (monthUnder h (now (s .entry)) .producer p) ⌝ }
+{
+    let at = producer_at(h, p);
+    let hours = 24 * (h.days as u16);
+    let late = above_one(word(s, at + 30))
+        | (above_one(word(s, at + 34)) | above_one(word(s, at + 38)));
+    let given = above_one(word(s, at + 18))
+        | (above_one(word(s, at + 22)) | (above_one(word(s, at + 26)) | late));
+    (hours < half(s, at + 12)) | ((hours < half(s, at + 14)) | ((hours < half(s, at + 16)) | given))
+}
+
+// 9, of the hour at a place.
+fn high_hour(s: &[u8], at: usize) -> bool
+    requires { ⌜ at ≤ 4000000000 ⌝ }
+    ensures { λ r. ⌜ r ≡ highAt (now (s .entry)) at ⌝ }
+{
+    too_high(word(s, at)) | (too_high(word(s, at + 4)) | too_high(word(s, at + 8)))
+}
+
+// 9, of producer p's hours.
+fn high_hours(s: &[u8], h: Header, p: u8) -> bool
+    ensures { λ r. ⌜ r ≡ any (highHour (monthUnder h (now (s .entry)) .producer p)) (hours h) ⌝ }
+{
+    let at = hours_at(h, p);
+    let n = 24 * (h.days as usize);
+    let mut found = false;
+    let mut i = 0;
+    while i < n {
+        found = found | high_hour(s, at + 12 * i);
+        i += 1;
+    }
+    found
+}
+
+// 9, of producer p.
+fn high_producer(s: &[u8], h: Header, p: u8) -> bool
+    ensures { λ r. ⌜ r ≡ highProducer h (monthUnder h (now (s .entry)) .producer p) ⌝ }
+{
+    let at = producer_at(h, p);
+    let own = too_high(word(s, at + 8)) | high_hours(s, h, p);
+    too_high(word(s, at)) | (too_high(word(s, at + 4)) | own)
+}
+
+fn producer_tests(s: &[u8], h: Header) -> ProducerTests
+    ensures { λ r. ⌜ r ≡ producerTests (monthUnder h (now (s .entry))) ⌝ }
+{
+    let mut share = false;
+    let mut high = false;
+    let mut p: u8 = 0;
+    while p < h.producers {
+        share = share | bad_share(s, h, p);
+        high = high | high_producer(s, h, p);
+        p += 1;
+    }
+    ProducerTests { share, high }
+}
+
+// 10, of one row.
+fn bad_reference(h: Header, r: Row) -> bool
+    ensures { λ b. ⌜ b ≡ badReference h r ⌝ }
+{
+    (h.producers <= r.producer) | ((r.consumer != 255) & (h.consumers <= r.consumer))
+}
+
+fn row_tests(s: &[u8], h: Header) -> RowTests
+    ensures { λ r. ⌜ r ≡ rowTests (monthUnder h (now (s .entry))) ⌝ }
+{
+    let mut high = false;
+    let mut reference = false;
+    let mut dear = false;
+    let mut j: u8 = 0;
+    while j < h.rows {
+        let r = row(s, h, j);
+        high = high | too_high(r.volume);
+        reference = reference | bad_reference(h, r);
+        dear = dear | too_dear(r.price);
+        j += 1;
+    }
+    RowTests {
+        high,
+        reference,
+        dear,
+    }
+}
+
+// 9, of one consumer.
+fn high_consumer(c: Consumer) -> bool
+    ensures { λ r. ⌜ r ≡ highConsumer c ⌝ }
+{
+    too_high(c.contract) | too_high(c.peak)
+}
+
+// 12, of one consumer.
+fn bad_factor(h: Header, c: Consumer) -> bool
+    ensures { λ r. ⌜ r ≡ badFactor h c ⌝ }
+{
+    (h.days < c.supplier) | ((h.days < c.grid) | ((c.z < 10) | (100 < c.z)))
+}
+
+fn consumer_tests(s: &[u8], h: Header) -> ConsumerTests
+    ensures { λ r. ⌜ r ≡ consumerTests (monthUnder h (now (s .entry))) ⌝ }
+{
+    let mut high = false;
+    let mut dear = false;
+    let mut factor = false;
+    let mut j: u8 = 0;
+    while j < h.consumers {
+        let c = consumer(s, h, j);
+        high = high | high_consumer(c);
+        dear = dear | too_dear(c.price);
+        factor = factor | bad_factor(h, c);
+        j += 1;
+    }
+    ConsumerTests { high, dear, factor }
+}
+
+// The first of the numbers 8 to 12 that applies to the figures that a header puts into a sheet, 0 where none does.
+pub fn figure_refusal(s: &[u8], h: Header) -> u8
+    ensures { λ r. ⌜ r ≡ firstOf (figureTests (monthUnder h (now (s .entry)))) ⌝ }
+{
+    let p = producer_tests(s, h);
+    let r = row_tests(s, h);
+    let c = consumer_tests(s, h);
+    let twelve = first(12, c.factor, 0);
+    let eleven = first(11, r.dear | c.dear, twelve);
+    let ten = first(10, r.reference, eleven);
+    let nine = first(9, p.high | (r.high | c.high), ten);
+    first(8, p.share, nine)
+}
