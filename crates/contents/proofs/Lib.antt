@@ -1,2 +1,1 @@
 pub mod HighHours
-pub mod Ceilings

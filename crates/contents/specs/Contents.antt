@@ -1,10 +1,10 @@
 -- What the tests of numbers 8 to 12 find, kind by kind.
-use Prim.Native.Nat.{ℕ, _+_, _*_}
+use Prim.Native.Nat.{ℕ}
 use mathlib.Core.Bool.{Bool}
-use mathlib.Core.List.{List, [], _∷_}
+use mathlib.Core.List.{List}
 use Rattle.rules.specs.Month.{Month}
-use Rattle.rules.specs.Fields.{bigEndian}
-use Rattle.rules.specs.Refusals.{oneOf, tooHigh, badShare, highProducer, highRow, badReference, highConsumer, tooDear, badFactor, someProducer, someRow, someConsumer}
+use Rattle.rules.specs.Sheet.{producerOf}
+use Rattle.rules.specs.Refusals.{badShare, highHour, highProducer, highRow, badReference, highConsumer, tooDear, badFactor, someProducer, someRow, someConsumer}
 use Rattle.contents.specs.declared.ProducerTests.{ProducerTests}
 use Rattle.contents.specs.declared.RowTests.{RowTests}
 use Rattle.contents.specs.declared.ConsumerTests.{ConsumerTests}
@@ -31,9 +31,6 @@ consumerTests m =
       factor = someConsumer m (badFactor (m .header));
     }
 
--- 9, of an hour whose figures begin at a place; and of hour i of hours that begin at one.
+-- 9, of an hour whose figures begin at a place.
 unfoldable pub highAt : List ℕ → ℕ → Bool
-highAt s at = oneOf (tooHigh (bigEndian 4 s at) ∷ tooHigh (bigEndian 4 s (at + 4)) ∷ tooHigh (bigEndian 4 s (at + 8)) ∷ [])
-
-unfoldable pub highIn : List ℕ → ℕ → ℕ → Bool
-highIn s at i = highAt s (at + 12 * i)
+highAt s at = highHour (producerOf s 0 (λ _. at)) 0

@@ -2,35 +2,20 @@
 ghost use mathlib.Core.Path.{_≡_};
 ghost use mathlib.Core.Bool.{_||_};
 ghost use Prim.Native.Nat.{_≤_};
-ghost use lib.Dec.{ltb};
-ghost use Rattle.rules.specs.Units.{one};
 ghost use Rattle.rules.specs.Month.{hours};
 ghost use Rattle.rules.specs.Sheet.{producerAt, hourAt, producerOf, monthUnder};
 ghost use Rattle.rules.specs.Range.{any};
-ghost use Rattle.rules.specs.Refusals.{
-  badShare,
-  tooHigh,
-  highHour,
-  highProducer,
-  highRow,
-  highConsumer,
-  badReference,
-  tooDear,
-  badFactor,
-  figureTests,
-  firstOf,
-};
+ghost use Rattle.rules.specs.Refusals.{badShare, highHour, highProducer, figureTests, firstOf};
 ghost use Rattle.contents.specs.Contents.{producerTests, rowTests, consumerTests, highAt};
 use fields::half;
 use fields::word;
-use figures::Capacity;
-use figures::ONE;
-use figures::Price;
-use figures::Tenths;
-use figures::Tiyn;
-use rules::Consumer;
+use limits::above_one;
+use limits::bad_factor;
+use limits::bad_reference;
+use limits::high_consumer;
+use limits::too_dear;
+use limits::too_high;
 use rules::Header;
-use rules::Row;
 use sheet::consumer;
 use sheet::first;
 use sheet::hours_at;
@@ -55,35 +40,6 @@ struct ConsumerTests {
     high: bool,
     dear: bool,
     factor: bool,
-}
-
-// 9, of one figure.
-fn too_high(tenths: u32) -> bool
-    ensures { λ r. ⌜ r ≡ tooHigh tenths ⌝ }
-{
-    let figure = Tenths::new(tenths as u64);
-    match figure {
-        Capacity::Within(_) => false,
-        Capacity::Above => true,
-    }
-}
-
-// 11, of one price.
-fn too_dear(price: u32) -> bool
-    ensures { λ r. ⌜ r ≡ tooDear price ⌝ }
-{
-    let figure = Tiyn::new(price as u64);
-    match figure {
-        Price::Within(_) => false,
-        Price::Above => true,
-    }
-}
-
-// 8, of one coefficient.
-fn above_one(k: u32) -> bool
-    ensures { λ r. ⌜ r ≡ ltb one k ⌝ }
-{
-    ONE < k as u64
 }
 
 // 8, of producer p.
@@ -145,13 +101,6 @@ fn producer_tests(s: &[u8], h: Header) -> ProducerTests
     ProducerTests { share, high }
 }
 
-// 10, of one row.
-fn bad_reference(h: Header, r: Row) -> bool
-    ensures { λ b. ⌜ b ≡ badReference h r ⌝ }
-{
-    (h.producers <= r.producer) | ((r.consumer != 255) & (h.consumers <= r.consumer))
-}
-
 fn row_tests(s: &[u8], h: Header) -> RowTests
     ensures { λ r. ⌜ r ≡ rowTests (monthUnder h (now (s .entry))) ⌝ }
 {
@@ -171,20 +120,6 @@ fn row_tests(s: &[u8], h: Header) -> RowTests
         reference,
         dear,
     }
-}
-
-// 9, of one consumer.
-fn high_consumer(c: Consumer) -> bool
-    ensures { λ r. ⌜ r ≡ highConsumer c ⌝ }
-{
-    too_high(c.contract) | too_high(c.peak)
-}
-
-// 12, of one consumer.
-fn bad_factor(h: Header, c: Consumer) -> bool
-    ensures { λ r. ⌜ r ≡ badFactor h c ⌝ }
-{
-    (h.days < c.supplier) | ((h.days < c.grid) | ((c.z < 10) | (100 < c.z)))
 }
 
 fn consumer_tests(s: &[u8], h: Header) -> ConsumerTests

@@ -7,16 +7,7 @@ ghost use Rattle.rules.specs.Range.{when};
 ghost use Rattle.rules.specs.Sheet.{monthUnder};
 ghost use Rattle.rules.specs.ControlHours.{controlHour, controlCount};
 ghost use Rattle.producer.specs.Sums.{volumesOf, sumsOf};
-
-mod coefficients;
-
 use calendar::control_day;
-pub use coefficients::bids;
-pub use coefficients::less;
-pub use coefficients::less_penalty;
-pub use coefficients::overuse;
-pub use coefficients::penalty;
-pub use coefficients::plans;
 use fields::word;
 use rules::Header;
 use rules::Row;

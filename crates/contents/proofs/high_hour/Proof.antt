@@ -1,4 +1,4 @@
-use Rattle.rules.specs.Refusals.{oneOf}
+use Rattle.rules.specs.Refusals.{oneOf, highHour}
 use mathlib.Core.Bool.{or-false}
 use Rattle.contents.specs.Contents.{highAt}
 use borrow.Author.Needs.{needs}
@@ -30,7 +30,7 @@ too-high-requires-3 : tie.Need-too-high-requires-3
 too-high-requires-3 c κs = search needs
 
 returns : tie.Need-returns
-unfolding highAt oneOf
+unfolding highAt highHour oneOf
 returns c = rw (or-false, c .before .before .before .before .too-high .ensures, c .before .before .too-high2 .ensures, c .too-high3 .ensures, c .before .before .before .before .before .word .ensures, c .before .before .before .word2 .ensures, c .before .word3 .ensures)
 
 pub high-hour-spec : {M : Type 1} → statement M

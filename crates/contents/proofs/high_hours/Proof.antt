@@ -4,8 +4,7 @@ use borrow.Author.Needs.{needs}
 use mathlib.Core.Path.{_≡_, sym, _∙_}
 use Prim.Native.Nat.{_-_, _≤_, zero-le}
 use Rattle.rules.specs.Range.{any}
-use Rattle.contents.specs.Contents.{highIn}
-use Rattle.contents.proofs.HighHours.{high-there}
+use Rattle.contents.proofs.HighHours.{highIn, high-there}
 use Rattle.contents.proofs.high_hours.Statement.{statement}
 use Rattle.contents.proofs.high_hours.Tie as tie
 

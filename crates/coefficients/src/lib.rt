@@ -1,0 +1,69 @@
+// The parts of a producer's coefficients, on plain numbers.
+ghost use mathlib.Core.Path.{_≡_};
+ghost use Prim.Native.Nat.{_-_, _*_, max};
+ghost use Rattle.rules.specs.ControlHours.{average};
+ghost use Rattle.rules.specs.Bands.{bandOf, thousandths};
+ghost use Rattle.rules.specs.Coefficients.{share, lessPenalty};
+use figures::ONE;
+use figures::factor;
+use figures::less;
+use figures::nearest;
+use figures::share;
+use figures::thousandths;
+
+// D of k1.
+pub fn overuse(counted: u64, count: u64, deductible: u32) -> u64
+    ensures { λ r. ⌜ r ≡ average counted count - deductible ⌝ }
+{
+    less(nearest(counted, count), deductible as u64)
+}
+
+// n × D of k1, in hundredths of a megawatt.
+pub fn penalty(over: u32, deductible: u32) -> u64
+    ensures { λ r. ⌜ r ≡ bandOf (thousandths over deductible) * over ⌝ }
+{
+    (factor(thousandths(over, deductible)) as u64) * (over as u64)
+}
+
+// 1 - n × D / T.
+pub fn less_penalty(support: u32, penalty: u64) -> u64
+    ensures { λ r. ⌜ r ≡ lessPenalty support penalty ⌝ }
+{
+    if support == 0 {
+        if penalty == 0 {
+            return ONE;
+        }
+        return 0;
+    }
+    let whole = 10 * (support as u64);
+    nearest(less(whole, penalty) * ONE, whole)
+}
+
+// k2.
+pub fn bids(hours: u32, up: u16, down: u16) -> u64
+    ensures { λ r. ⌜ r ≡ share (hours - max up down) hours ⌝ }
+{
+    if up < down {
+        share(missing(hours, down), hours)
+    } else {
+        share(missing(hours, up), hours)
+    }
+}
+
+// The hours less those that are missing, not below 0.
+fn missing(hours: u32, count: u16) -> u32
+    ensures { λ r. ⌜ r ≡ hours - count ⌝ }
+{
+    if (count as u32) < hours {
+        hours - count as u32
+    } else {
+        0
+    }
+}
+
+// k5.
+pub fn plans(hours: u32, plan: u16) -> u64
+    ensures { λ r. ⌜ r ≡ share (hours - plan) hours ⌝ }
+{
+    share(missing(hours, plan), hours)
+}

@@ -1,0 +1,23 @@
+use mathlib.Core.Path.{sym, ap, _∙_}
+use Rattle.limits.proofs.Ceilings.{priceAbove, price-above}
+use borrow.Author.Needs.{needs}
+use Rattle.limits.proofs.too_dear.Statement.{statement}
+use Rattle.limits.proofs.too_dear.Tie as tie
+
+new-requires : tie.Need-new-requires
+new-requires c κs = search needs
+
+enum-told : tie.Need-enum-told
+enum-told c = search needs
+
+enum-told-2 : tie.Need-enum-told-2
+enum-told-2 c = search needs
+
+returns : tie.Need-returns
+returns c = ap priceAbove (sym (c .enum-told .given .1) ∙ c .before .before .new .ensures) ∙ price-above _
+
+returns-2 : tie.Need-returns-2
+returns-2 c = ap priceAbove (sym (c .enum-told2 .given .1) ∙ c .before .before .new .ensures) ∙ price-above _
+
+pub too-dear-spec : {M : Type 1} → statement M
+too-dear-spec = tie.close (tie.spec new-requires enum-told enum-told-2 returns returns-2)

@@ -1,0 +1,213 @@
+{ The month's sheet as records, and the reading of its bytes.
+  Field widths and their order follow document 01, "Units and the sheet". }
+unit sheets;
+
+{$mode objfpc}{$H+}{$R+}{$Q+}
+
+interface
+
+const
+  HeaderWidth = 14;
+  ProducerWidth = 42; { without the hours }
+  HourWidth = 12;     { three powers of four bytes; 24 of them make 288 a day }
+  RowWidth = 10;
+  ConsumerWidth = 15;
+
+  MostProducers = 6;
+  MostRows = 32;
+  MostConsumers = 32;
+  MostDays = 31;
+  HoursInDay = 24;
+  MostHours = HoursInDay * MostDays;
+
+  SingleBuyer = 255; { the consumer number of a support row }
+
+type
+  TByteSequence = array of Byte;
+
+  THeader = record
+    SheetLength: LongWord;
+    Version: Byte;
+    Days: Byte;
+    FirstWeekday: Byte; { Monday 1 to Sunday 7 }
+    Holidays: LongWord; { lowest bit for day 1 }
+    ProducerCount: Byte;
+    RowCount: Byte;
+    ConsumerCount: Byte;
+  end;
+
+  { Powers in tenths of a megawatt. }
+  THour = record
+    Working: LongWord;
+    Possible: LongWord;
+    OutsideUse: LongWord;
+  end;
+
+  TProducer = record
+    AttestedCapacity: LongWord;   { tenths of a megawatt, as the next two }
+    DeductibleCapacity: LongWord;
+    GreatestOwnNeeds: LongWord;
+    HoursWithoutUpwardBid: Word;
+    HoursWithoutDownwardBid: Word;
+    HoursWithoutPlan: Word;
+    K3, K6, K7, K8, K9, K10: LongWord; { millionths, given by the System Operator }
+    Hours: array[0..MostHours - 1] of THour; { from hour 0 of day 1 }
+  end;
+
+  TRow = record
+    Producer: Byte;
+    Consumer: Byte;   { or SingleBuyer }
+    Volume: LongWord; { tenths of a megawatt }
+    Price: LongWord;  { tiyn per megawatt and month }
+  end;
+
+  TConsumer = record
+    ContractVolume: LongWord;   { tenths of a megawatt, DO in the paper }
+    Peak: LongWord;             { tenths of a megawatt }
+    SupplierMiningDays: Byte;   { T'' }
+    GridMiningDays: Byte;       { T''' }
+    Z: Byte;                    { tenths }
+    Price: LongWord;            { tiyn per megawatt and month }
+  end;
+
+  TSheet = record
+    Header: THeader;
+    Producers: array[0..MostProducers - 1] of TProducer;
+    Rows: array[0..MostRows - 1] of TRow;
+    Consumers: array[0..MostConsumers - 1] of TConsumer;
+  end;
+
+{ Hours in the month, H in the paper. }
+function HoursInMonth(const Header: THeader): Int64;
+
+{ The length that the header's counts and days ask for. }
+function LengthAskedFor(const Header: THeader): Int64;
+
+function IsSupportRow(const Row: TRow): Boolean;
+
+{ With fewer than 14 bytes there is no header, and all its fields are 0. }
+procedure ReadHeader(const Bytes: TByteSequence; out Header: THeader);
+
+{ To be called only when the header has passed refusals 1 to 6: then the counts
+  are within the records' room and every byte read here is there. The header
+  must already stand in the sheet. }
+procedure ReadBody(const Bytes: TByteSequence; var Sheet: TSheet);
+
+implementation
+
+function HoursInMonth(const Header: THeader): Int64;
+begin
+  Result := HoursInDay * Int64(Header.Days);
+end;
+
+function LengthAskedFor(const Header: THeader): Int64;
+begin
+  Result := HeaderWidth
+    + Int64(Header.ProducerCount) * (ProducerWidth + HourWidth * HoursInMonth(Header))
+    + RowWidth * Int64(Header.RowCount)
+    + ConsumerWidth * Int64(Header.ConsumerCount);
+end;
+
+function IsSupportRow(const Row: TRow): Boolean;
+begin
+  Result := Row.Consumer = SingleBuyer;
+end;
+
+{ The three readers take a field, highest byte first, and move the place on. }
+
+function NextOne(const Bytes: TByteSequence; var Place: Integer): Byte;
+begin
+  Result := Bytes[Place];
+  Place := Place + 1;
+end;
+
+function NextTwo(const Bytes: TByteSequence; var Place: Integer): Word;
+begin
+  Result := Int64(Bytes[Place]) * 256 + Bytes[Place + 1];
+  Place := Place + 2;
+end;
+
+function NextFour(const Bytes: TByteSequence; var Place: Integer): LongWord;
+begin
+  Result := Int64(Bytes[Place]) * 16777216
+    + Int64(Bytes[Place + 1]) * 65536
+    + Int64(Bytes[Place + 2]) * 256
+    + Bytes[Place + 3];
+  Place := Place + 4;
+end;
+
+procedure ReadHeader(const Bytes: TByteSequence; out Header: THeader);
+var
+  Place: Integer;
+begin
+  FillChar(Header, SizeOf(Header), 0);
+  if Length(Bytes) < HeaderWidth then Exit;
+  Place := 0;
+  Header.SheetLength := NextFour(Bytes, Place);
+  Header.Version := NextOne(Bytes, Place);
+  Header.Days := NextOne(Bytes, Place);
+  Header.FirstWeekday := NextOne(Bytes, Place);
+  Header.Holidays := NextFour(Bytes, Place);
+  Header.ProducerCount := NextOne(Bytes, Place);
+  Header.RowCount := NextOne(Bytes, Place);
+  Header.ConsumerCount := NextOne(Bytes, Place);
+end;
+
+procedure ReadProducer(const Bytes: TByteSequence; var Place: Integer;
+  HourCount: Integer; var Producer: TProducer);
+var
+  Hour: Integer;
+begin
+  Producer.AttestedCapacity := NextFour(Bytes, Place);
+  Producer.DeductibleCapacity := NextFour(Bytes, Place);
+  Producer.GreatestOwnNeeds := NextFour(Bytes, Place);
+  Producer.HoursWithoutUpwardBid := NextTwo(Bytes, Place);
+  Producer.HoursWithoutDownwardBid := NextTwo(Bytes, Place);
+  Producer.HoursWithoutPlan := NextTwo(Bytes, Place);
+  Producer.K3 := NextFour(Bytes, Place);
+  Producer.K6 := NextFour(Bytes, Place);
+  Producer.K7 := NextFour(Bytes, Place);
+  Producer.K8 := NextFour(Bytes, Place);
+  Producer.K9 := NextFour(Bytes, Place);
+  Producer.K10 := NextFour(Bytes, Place);
+  for Hour := 0 to HourCount - 1 do
+  begin
+    Producer.Hours[Hour].Working := NextFour(Bytes, Place);
+    Producer.Hours[Hour].Possible := NextFour(Bytes, Place);
+    Producer.Hours[Hour].OutsideUse := NextFour(Bytes, Place);
+  end;
+end;
+
+procedure ReadRow(const Bytes: TByteSequence; var Place: Integer; var Row: TRow);
+begin
+  Row.Producer := NextOne(Bytes, Place);
+  Row.Consumer := NextOne(Bytes, Place);
+  Row.Volume := NextFour(Bytes, Place);
+  Row.Price := NextFour(Bytes, Place);
+end;
+
+procedure ReadConsumer(const Bytes: TByteSequence; var Place: Integer;
+  var Consumer: TConsumer);
+begin
+  Consumer.ContractVolume := NextFour(Bytes, Place);
+  Consumer.Peak := NextFour(Bytes, Place);
+  Consumer.SupplierMiningDays := NextOne(Bytes, Place);
+  Consumer.GridMiningDays := NextOne(Bytes, Place);
+  Consumer.Z := NextOne(Bytes, Place);
+  Consumer.Price := NextFour(Bytes, Place);
+end;
+
+procedure ReadBody(const Bytes: TByteSequence; var Sheet: TSheet);
+var
+  Place, Number: Integer;
+begin
+  Place := HeaderWidth;
+  for Number := 0 to Sheet.Header.ProducerCount - 1 do
+    ReadProducer(Bytes, Place, HoursInMonth(Sheet.Header), Sheet.Producers[Number]);
+  for Number := 0 to Sheet.Header.RowCount - 1 do
+    ReadRow(Bytes, Place, Sheet.Rows[Number]);
+  for Number := 0 to Sheet.Header.ConsumerCount - 1 do
+    ReadConsumer(Bytes, Place, Sheet.Consumers[Number]);
+end;
+
+end.

@@ -1,0 +1,111 @@
+{ The figures between the sheet and the result, set out for a person who checks
+  them by hand. Not part of document 01; the letters are those of the paper. }
+unit traces;
+
+{$mode objfpc}{$H+}{$R+}{$Q+}
+
+interface
+
+uses
+  sheets, settlements;
+
+procedure WriteTrace(var Paper: Text; const Sheet: TSheet; const Settlement: TSettlement);
+
+implementation
+
+uses
+  exact, listings;
+
+{ A whole number of parts, Parts to the unit, with as many decimals. }
+function DecimalText(Value, Parts: QWord; Decimals: Integer): string;
+var
+  Tail: string;
+begin
+  Str(Value mod Parts, Tail);
+  while Length(Tail) < Decimals do
+    Tail := '0' + Tail;
+  Str(Value div Parts, Result);
+  Result := Result + '.' + Tail;
+end;
+
+function MillionthsText(Millionths: QWord): string;
+begin
+  Result := DecimalText(Millionths, 1000000, 6);
+end;
+
+{ The excess of a consumer is a number of twentieths of a tenth, so thousandths
+  of a megawatt show it whole. }
+function ExcessText(const Excess: TFraction): string;
+var
+  ExactHalf: Boolean;
+begin
+  Result := DecimalText(RoundedHalfUp(Excess * Whole(100), ExactHalf), 1000, 3);
+end;
+
+procedure WriteProducer(var Paper: Text; Number: Integer; const Figures: TProducerFigures);
+begin
+  with Figures do
+  begin
+    WriteLn(Paper, 'Producer ', Number, ': T ', TenthsText(SupportSum),
+      ', B ', TenthsText(BilateralSum), ', S ', TenthsText(WholeSum),
+      ', excess ', TenthsText(Excess));
+    WriteLn(Paper, '  control hours ', ControlHours, ', their sum ', TenthsText(ControlSum),
+      ', average ', TenthsText(ControlAverage), ', D ', TenthsText(OverUse),
+      ', p ', P, ', n ', TenthsText(N));
+    WriteLn(Paper, '  sum of m ', TenthsText(SumOfM),
+      ', sum of the smaller of m and working ', TenthsText(SumWorked));
+    WriteLn(Paper, '  k1 ', MillionthsText(K[1]), ', k2 ', MillionthsText(K[2]),
+      ', k4 ', MillionthsText(K[4]), ', k5 ', MillionthsText(K[5]));
+  end;
+end;
+
+procedure WriteRow(var Paper: Text; Number: Integer; const Row: TRow;
+  const Figures: TRowFigures);
+var
+  Factor: Integer;
+begin
+  Write(Paper, 'Row ', Number, ': producer ', Row.Producer);
+  if IsSupportRow(Row) then
+    Write(Paper, ', support row')
+  else
+    Write(Paper, ', bilateral row, consumer ', Row.Consumer);
+  WriteLn(Paper, ', volume ', TenthsText(Row.Volume),
+    ', after the cut ', TenthsText(Figures.VolumeAfterCut));
+  Write(Paper, '  products');
+  for Factor := 1 to 10 do
+    Write(Paper, ' k', Factor, ' ', MillionthsText(Figures.Products[Factor]));
+  WriteLn(Paper);
+  WriteLn(Paper, '  actual volume ', TenthsText(Figures.ActualVolume),
+    ', payment ', TengeText(Figures.Payment));
+end;
+
+procedure WriteConsumer(var Paper: Text; Number: Integer; const Consumer: TConsumer;
+  const Figures: TConsumerFigures);
+begin
+  with Figures do
+  begin
+    WriteLn(Paper, 'Consumer ', Number, ': DO ', TenthsText(Consumer.ContractVolume),
+      ', peak ', TenthsText(Consumer.Peak), ', credit ', TenthsText(Credit),
+      ', counted peak ', TenthsText(CountedPeak));
+    WriteLn(Paper, '  Do ', ExcessText(Excess), ', p ', P, ', n ', TenthsText(N),
+      ', actual volume ', TenthsText(ActualVolume), ', charge ', TengeText(Charge));
+  end;
+end;
+
+procedure WriteTrace(var Paper: Text; const Sheet: TSheet; const Settlement: TSettlement);
+var
+  Number: Integer;
+begin
+  WriteLn(Paper, 'Month: days ', Sheet.Header.Days, ', first weekday ',
+    Sheet.Header.FirstWeekday, ', H ', HoursInMonth(Sheet.Header));
+  for Number := 0 to Sheet.Header.ProducerCount - 1 do
+    WriteProducer(Paper, Number, Settlement.Producers[Number]);
+  for Number := 0 to Sheet.Header.RowCount - 1 do
+    WriteRow(Paper, Number, Sheet.Rows[Number], Settlement.Rows[Number]);
+  for Number := 0 to Sheet.Header.ConsumerCount - 1 do
+    WriteConsumer(Paper, Number, Sheet.Consumers[Number], Settlement.Consumers[Number]);
+  WriteLn(Paper, 'Total paid ', TengeText(Settlement.TotalPaid),
+    ', total charged ', TengeText(Settlement.TotalCharged));
+end;
+
+end.
