@@ -207,6 +207,14 @@ begin
   Halt(StatusWrongUse);
 end;
 
+procedure Complain(const Words: string);
+begin
+  WriteLn(StdErr, 'rival: ', Words);
+  { At once: if standard output is the trouble, nothing more is written at the end. }
+  Flush(StdErr);
+  Halt(StatusTrouble);
+end;
+
 function BufferFrom(const Given: string): Int64;
 var
   Number, Trouble: Integer;
@@ -246,10 +254,11 @@ begin
     Run;
     Flush(Output);
   except
+    { Files report their trouble in their own words; what is left of this kind is
+      standard output. }
+    on EInOutError do
+      Complain('cannot write to standard output');
     on Trouble: Exception do
-    begin
-      WriteLn(StdErr, 'rival: ', Trouble.Message);
-      Halt(StatusTrouble);
-    end;
+      Complain(Trouble.Message);
   end;
 end.

@@ -3,8 +3,7 @@ ghost use mathlib.Core.Path.{_≡_};
 ghost use Prim.Native.Nat.{_-_, _*_, max};
 ghost use Rattle.rules.specs.ControlHours.{average};
 ghost use Rattle.rules.specs.Bands.{bandOf, thousandths};
-ghost use Rattle.rules.specs.Coefficients.{share, lessPenalty};
-use figures::ONE;
+ghost use Rattle.rules.specs.Coefficients.{share};
 use figures::factor;
 use figures::less;
 use figures::nearest;
@@ -23,20 +22,6 @@ pub fn penalty(over: u32, deductible: u32) -> u64
     ensures { λ r. ⌜ r ≡ bandOf (thousandths over deductible) * over ⌝ }
 {
     (factor(thousandths(over, deductible)) as u64) * (over as u64)
-}
-
-// 1 - n × D / T.
-pub fn less_penalty(support: u32, penalty: u64) -> u64
-    ensures { λ r. ⌜ r ≡ lessPenalty support penalty ⌝ }
-{
-    if support == 0 {
-        if penalty == 0 {
-            return ONE;
-        }
-        return 0;
-    }
-    let whole = 10 * (support as u64);
-    nearest(less(whole, penalty) * ONE, whole)
 }
 
 // k2.

@@ -1,13 +1,15 @@
 -- What an hour adds to a producer's sums, as a loop over the hours meets it. Assumes nothing.
-use mathlib.Core.Path.{_≡_}
+use mathlib.Core.Path.{_≡_, refl}
 use mathlib.Core.List.{List}
-use Prim.Native.Nat.{ℕ, _+_, _*_, min}
+use Prim.Native.Nat.{ℕ, _+_, _*_, _≤_, min}
 use Rattle.rules.specs.declared.Header.{Header}
-use Rattle.rules.specs.Range.{when}
+use Rattle.rules.specs.Range.{sum, when}
 use Rattle.rules.specs.Fields.{bigEndian}
 use Rattle.rules.specs.Sheet.{hourAt, monthUnder}
-use Rattle.rules.specs.ControlHours.{controlHour, counted}
+use Rattle.rules.specs.ControlHours.{controlHour, counted, once}
 use Rattle.rules.specs.Coefficients.{asked, met}
+use native.Mathlib.Omega.{arith}
+use Rattle.laws.proofs.Range.{sum-more}
 use Rattle.sheet.proofs.Hours.{hour-there}
 
 module _ (s : List ℕ) (h : Header) (p i : ℕ) {start : ℕ} (e : start ≡ hourAt h p 0) where
@@ -24,3 +26,11 @@ module _ (s : List ℕ) (h : Header) (p i : ℕ) {start : ℕ} (e : start ≡ ho
       → when (controlHour h i) w ≡ counted h (monthUnder h s .producer p .outsideUse) i
   unfolding counted
   counted-there q = rw (q, hour-there h p i e)
+
+-- What is counted is at most the ceiling of a four-byte figure, times the control hours that are counted.
+pub counted-more : (h : Header) (i : ℕ) {c v : ℕ} → c ≤ 4294967295 * sum (counted h once) i → v ≤ 4294967295 * when (controlHour h i) 1
+    → c + v ≤ 4294967295 * sum (counted h once) (i + 1)
+counted-more h i a b = omega (arith, a, b, sum-more (counted h once) i, once-there)
+  where
+    once-there : counted h once i ≡ when (controlHour h i) 1
+    once-there = unfold counted in refl

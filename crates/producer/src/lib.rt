@@ -1,7 +1,8 @@
 // What the rows and the hours of a sheet say of one producer: its volumes and its sums over the hours.
 ghost use mathlib.Core.Path.{_≡_};
 ghost use mathlib.Core.Bool.{_&&_, not};
-ghost use Prim.Native.Nat.{_<_, _≤_, min};
+ghost use Prim.Native.Nat.{_*_, _<_, _≤_, min};
+ghost use Rattle.rules.specs.Month.{hours};
 ghost use lib.Dec.{eqb};
 ghost use Rattle.rules.specs.Range.{when};
 ghost use Rattle.rules.specs.Sheet.{monthUnder};
@@ -52,6 +53,7 @@ fn bilateral_of(r: Row, p: u8) -> u64
 // T and B of producer p.
 pub fn row_volumes(s: &[u8], h: Header, p: u8) -> Volumes
     ensures { λ r. ⌜ r ≡ volumesOf (monthUnder h (now (s .entry))) p ⌝ }
+    ensures fits { λ r. ⌜ (r .support ≤ 1095216660225) × (r .bilateral ≤ 1095216660225) ⌝ }
 {
     let mut support: u64 = 0;
     let mut bilateral: u64 = 0;
@@ -83,7 +85,7 @@ fn control_hour(h: Header, i: usize) -> bool
 // A figure in a control hour, otherwise nothing.
 fn counted_of(h: Header, i: usize, v: u32) -> u64
     requires { ⌜ i < 6120 ⌝ }
-    ensures { λ r. ⌜ (r ≡ when (controlHour h i) v) × (r ≤ 4294967295) ⌝ }
+    ensures { λ r. ⌜ (r ≡ when (controlHour h i) v) × (r ≤ 4294967295 * when (controlHour h i) 1) × (r ≤ 4294967295) ⌝ }
 {
     if control_hour(h, i) { v as u64 } else { 0 }
 }
@@ -91,6 +93,7 @@ fn counted_of(h: Header, i: usize, v: u32) -> u64
 // The sums over producer p's hours, for a summed capacity S, in one pass.
 pub fn hour_sums(s: &[u8], h: Header, p: u8, summed: u64) -> Sums
     ensures { λ r. ⌜ r ≡ sumsOf h (monthUnder h (now (s .entry)) .producer p) summed ⌝ }
+    ensures fits { λ r. ⌜ (r .asked ≤ 4294967295 * hours h) × (r .met ≤ 4294967295 * hours h) × (r .counted ≤ 4294967295 * controlCount h) ⌝ }
 {
     let start = hours_at(h, p);
     let n = 24 * (h.days as usize);

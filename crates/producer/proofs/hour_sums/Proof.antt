@@ -2,13 +2,13 @@ use native.Mathlib.Omega.{arith}
 use borrow.Author.Needs.{needs}
 use mathlib.Core.Path.{_≡_, sym, _∙_}
 use Prim.Native.Nat.{_-_, _*_, _≤_, zero-le}
-use Rattle.laws.proofs.Range.{sum-none, sum-fold, sum-done}
+use Rattle.laws.proofs.Range.{sum-none, sum-fold, sum-done, sum-end}
 use Rattle.rules.specs.Range.{sum}
 use Rattle.rules.specs.Sheet.{monthUnder}
 use Rattle.rules.specs.Coefficients as Coefficients
 use Rattle.rules.specs.ControlHours as ControlHours
-use Rattle.rules.specs.ControlHours.{controlSum}
-use Rattle.producer.proofs.Turns.{asked-there, met-there, counted-there}
+use Rattle.rules.specs.ControlHours.{controlSum, controlCount}
+use Rattle.producer.proofs.Turns.{asked-there, met-there, counted-there, counted-more}
 use Rattle.producer.proofs.hour_sums.Statement.{statement}
 use Rattle.producer.proofs.hour_sums.Tie as tie
 
@@ -20,6 +20,7 @@ Inv-loop s h p summed start n asked₀ met₀ counted₀ i₀ asked met counted 
     × (asked ≤ 4294967295 * i)
     × (met ≤ 4294967295 * i)
     × (counted ≤ 4294967295 * i)
+    × (counted ≤ 4294967295 * sum (ControlHours.counted h ControlHours.once) i)
     × (i ≤ n)
     × (n ≤ 6120)
 
@@ -36,7 +37,7 @@ mul-n : tie.Need-mul-n Inv-loop μ-loop
 mul-n c = omega arith
 
 loop-holds : tie.Need-loop-holds Inv-loop μ-loop
-loop-holds c = (sym (sum-none _), sym (sum-none _), sym (sum-none _), zero-le, zero-le, zero-le, zero-le, omega arith)
+loop-holds c = (sym (sum-none _), sym (sum-none _), sym (sum-none _), zero-le, zero-le, zero-le, zero-le, zero-le, omega arith)
 
 mul-at : tie.Need-mul-at Inv-loop μ-loop
 mul-at c = omega arith
@@ -98,17 +99,25 @@ loop-again c =
       omega arith,
       omega arith,
       omega arith,
+      counted-more _ _ (c .before .before .before .before .before .before .before .loop .inv .6) (c .counted-of .ensures .1),
       omega arith,
       omega arith,
     )
 
 returns : tie.Need-returns Inv-loop μ-loop
-unfolding controlSum
+unfolding controlSum controlCount
 returns c =
-    rw (
-      sum-done _ {n = 24 * c .before .before .before .before .before .args .h .days} (omega arith) (omega arith) (c .before .loop .inv .0),
-      sum-done _ {n = 24 * c .before .before .before .before .before .args .h .days} (omega arith) (omega arith) (c .before .loop .inv .1),
-      sum-done _ {n = 24 * c .before .before .before .before .before .args .h .days} (omega arith) (omega arith) (c .before .loop .inv .2),
+    let h = c .before .before .before .before .before .args .h in (
+      rw (
+        sum-done _ {n = 24 * h .days} (omega arith) (omega arith) (c .before .loop .inv .0),
+        sum-done _ {n = 24 * h .days} (omega arith) (omega arith) (c .before .loop .inv .1),
+        sum-done _ {n = 24 * h .days} (omega arith) (omega arith) (c .before .loop .inv .2),
+      ),
+      (
+        omega arith,
+        omega arith,
+        omega (arith, sum-end (ControlHours.counted h ControlHours.once) {i = c .before .loop .i} {n = 24 * h .days} (omega arith) (omega arith)),
+      ),
     )
 
 pub hour-sums-spec : {M : Type 1} → statement M

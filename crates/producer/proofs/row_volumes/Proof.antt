@@ -61,11 +61,13 @@ loop-again c = (
 
 returns : tie.Need-returns Inv-loop μ-loop
 unfolding supportVolume bilateralVolume
-returns c =
-    rw (
-      sum-done _ {n = c .before .before .before .before .args .h .rows} (omega arith) (omega arith) (c .before .before .loop .inv .0),
-      sum-done _ {n = c .before .before .before .before .args .h .rows} (omega arith) (omega arith) (c .before .before .loop .inv .1),
-    )
+returns c = (
+  rw (
+    sum-done _ {n = c .before .before .before .before .args .h .rows} (omega arith) (omega arith) (c .before .before .loop .inv .0),
+    sum-done _ {n = c .before .before .before .before .args .h .rows} (omega arith) (omega arith) (c .before .before .loop .inv .1),
+  ),
+  (omega arith, omega arith),
+)
 
 pub row-volumes-spec : {M : Type 1} → statement M
 row-volumes-spec =

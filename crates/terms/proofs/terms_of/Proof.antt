@@ -3,13 +3,11 @@ use mathlib.Core.Path.{ap, _∙_}
 use Prim.Native.Nat.{ℕ, _+_}
 use Rattle.rules.specs.Fields.{bigEndian}
 use Rattle.rules.specs.Sheet.{monthUnder}
-use Rattle.producer.specs.declared.Volumes.{Volumes}
 use Rattle.producer.specs.Sums.{sumsOf}
-use Rattle.settlement.proofs.Bounds.{support-le, bilateral-le}
-use Rattle.settlement.proofs.Cuts.{summed-is, left-first}
+use Rattle.terms.proofs.Cuts.{summed-is, left-first}
 use borrow.Author.Needs.{needs}
-use Rattle.settlement.proofs.terms.terms_of.Statement.{statement}
-use Rattle.settlement.proofs.terms.terms_of.Tie as tie
+use Rattle.terms.proofs.terms_of.Statement.{statement}
+use Rattle.terms.proofs.terms_of.Tie as tie
 
 producer-at-requires : tie.Need-producer-at-requires
 producer-at-requires c κs = search needs
@@ -18,7 +16,7 @@ row-volumes-requires : tie.Need-row-volumes-requires
 row-volumes-requires c κs = search needs
 
 add-summed : tie.Need-add-summed
-add-summed c = omega (arith, ap (λ (v : Volumes). v .support) (c .before .row-volumes .ensures), ap (λ (v : Volumes). v .bilateral) (c .before .row-volumes .ensures), support-le (monthUnder (c .before .before .before .before .args .h) (c .before .before .before .before .args .s .now)) (c .before .before .before .before .pre .0) (c .before .before .before .before .args .p), bilateral-le (monthUnder (c .before .before .before .before .args .h) (c .before .before .before .before .args .s .now)) (c .before .before .before .before .pre .0) (c .before .before .before .before .args .p))
+add-summed c = omega (arith, c .before .row-volumes .ensures .1)
 
 add-word : tie.Need-add-word
 add-word c = search needs
@@ -30,7 +28,7 @@ cast-summed : tie.Need-cast-summed
 cast-summed c = search needs
 
 add-summed-2 : tie.Need-add-summed-2
-add-summed-2 c = omega (arith, ap (λ (v : Volumes). v .support) (c .before .before .row-volumes .ensures), ap (λ (v : Volumes). v .bilateral) (c .before .before .row-volumes .ensures), support-le (monthUnder (c .before .before .before .before .before .args .h) (c .before .before .before .before .before .args .s .now)) (c .before .before .before .before .before .pre .0) (c .before .before .before .before .before .args .p), bilateral-le (monthUnder (c .before .before .before .before .before .args .h) (c .before .before .before .before .before .args .s .now)) (c .before .before .before .before .before .pre .0) (c .before .before .before .before .before .args .p))
+add-summed-2 c = omega (arith, c .before .before .row-volumes .ensures .1)
 
 hour-sums-requires : tie.Need-hour-sums-requires
 hour-sums-requires c κs = search needs
@@ -40,16 +38,15 @@ ks-of-requires c κs =
     let a = c .before .before .before .before .before .before in
     let m = (monthUnder (c .before .before .before .before .before .before .args .h) (c .before .before .before .before .before .before .args .s .now)) in
     let at = c .before .before .before .before .producer-at .ensures in
-    let d = c .before .word .ensures ∙ ap (λ (x : ℕ). bigEndian 4 (a .args .s .now) (x + 4)) (at .0) in (
-      a .pre .0,
+    let d = c .before .word .ensures ∙ ap (λ (x : ℕ). bigEndian 4 (a .args .s .now) (x + 4)) (at .0) in
+    let v = c .before .before .before .row-volumes .ensures in
+    let sums = c .hour-sums .ensures in (
+      (a .pre .0, at .0, at .1),
       (
-        (a .pre .1 .0, at .0, at .1),
+        (v .0, v .1 .0),
         (
-          c .before .before .before .row-volumes .ensures,
-          (
-            c .hour-sums .ensures ∙ ap (sumsOf (a .args .h) (m .producer (a .args .p))) (summed-is m (a .args .p) _ _ (c .before .before .before .row-volumes .ensures) d),
-            a .pre .1 .1,
-          ),
+          sums .0 ∙ ap (sumsOf (a .args .h) (m .producer (a .args .p))) (summed-is m (a .args .p) _ _ (v .0) d),
+          (sums .1 .1, rw (a .pre .1) (sums .1 .2), a .pre .1),
         ),
       ),
     )
@@ -86,7 +83,7 @@ returns c =
     rw (
       c .less2 .ensures,
       c .before .before .less .ensures,
-      summed-is m (a .args .p) _ _ (c .before .before .before .before .before .before .before .before .row-volumes .ensures) d,
+      summed-is m (a .args .p) _ _ (c .before .before .before .before .before .before .before .before .row-volumes .ensures .0) d,
       own,
       attested,
       c .before .before .before .before .ks-of .ensures,

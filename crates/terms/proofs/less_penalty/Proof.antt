@@ -3,8 +3,8 @@ use native.Mathlib.Omega.{arith}
 use Rattle.rules.specs.Coefficients.{lessPenalty}
 use Rattle.laws.proofs.Coefficients.{penalty-of-none, penalty-of-some}
 use borrow.Author.Needs.{needs}
-use Rattle.coefficients.proofs.less_penalty.Statement.{statement}
-use Rattle.coefficients.proofs.less_penalty.Tie as tie
+use Rattle.terms.proofs.less_penalty.Statement.{statement}
+use Rattle.terms.proofs.less_penalty.Tie as tie
 
 returns : tie.Need-returns
 unfolding lessPenalty

@@ -1,11 +1,9 @@
-use Rattle.rules.specs.Sheet.{monthUnder}
+use native.Mathlib.Omega.{arith}
 use Rattle.rules.specs.ControlHours.{controlAverage}
-use Rattle.rules.specs.Cut.{summedCapacity}
 use Rattle.rules.specs.Coefficients.{overuse, penalty, k1, k2, k4, k5, inOrder, coefficients}
-use Rattle.settlement.proofs.Bounds.{support-le, use-average-le, asked-sum-le, met-sum-le}
 use borrow.Author.Needs.{needs}
-use Rattle.settlement.proofs.terms.ks_of.Statement.{statement}
-use Rattle.settlement.proofs.terms.ks_of.Tie as tie
+use Rattle.terms.proofs.ks_of.Statement.{statement}
+use Rattle.terms.proofs.ks_of.Tie as tie
 
 cast-hours : tie.Need-cast-hours
 cast-hours c = search needs
@@ -22,8 +20,7 @@ word-requires c κs = search needs
 k1-of-requires : tie.Need-k1-of-requires
 k1-of-requires c κs =
     let a = c .before .before .before in
-    let m = (monthUnder (c .before .before .before .args .h) (c .before .before .before .args .s .now)) in
-    (rw (a .pre .1 .1 .1 .0, a .pre .1 .1 .1 .1) (use-average-le m (a .pre .0) (a .args .p) (a .pre .1 .0 .0)), rw (a .pre .1 .1 .0) (support-le m (a .pre .0) (a .args .p)))
+    (a .pre .1 .1 .1 .1, a .pre .1 .0 .1)
 
 add-half : tie.Need-add-half
 add-half c = search needs
@@ -52,9 +49,7 @@ cast-t19 c = search needs
 k4-of-requires : tie.Need-k4-of-requires
 k4-of-requires c κs =
     let a = c .before .before .before .before .before .before .before .before in
-    let m = (monthUnder (c .before .before .before .before .before .before .before .before .args .h) (c .before .before .before .before .before .before .before .before .args .s .now)) in
-    rw (a .pre .1 .1 .1 .0)
-    (met-sum-le m (a .pre .0) (a .args .p) (a .pre .1 .0 .0) (summedCapacity m (a .args .p)), asked-sum-le m (a .pre .0) (a .args .p) (a .pre .1 .0 .0) (summedCapacity m (a .args .p)))
+    omega (arith, a .pre .1 .1 .1 .0, a .pre .0 .0)
 
 add-half-3 : tie.Need-add-half-3
 add-half-3 c = search needs
@@ -129,10 +124,10 @@ returns c =
       c .before .before .word5 .ensures,
       c .before .word6 .ensures,
       c .word7 .ensures,
+      a .pre .1 .0 .0,
       a .pre .1 .1 .0,
-      a .pre .1 .1 .1 .0,
-      a .pre .1 .1 .1 .1,
-      a .pre .1 .0 .1,
+      a .pre .1 .1 .1 .2,
+      a .pre .0 .1,
     )
 
 pub ks-of-spec : {M : Type 1} → statement M

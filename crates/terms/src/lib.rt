@@ -1,27 +1,28 @@
-// What a producer's rows are settled by: its excess and its coefficients.
+// What a producer's rows are settled by: its excess and its coefficients, from any bytes under any header.
 ghost use mathlib.Core.Path.{_≡_};
-ghost use Prim.Native.Nat.{_-_, _*_, _<_, _≤_};
+ghost use Prim.Native.Nat.{ℕ, _-_, _*_, _<_, _≤_};
+ghost use lib.ListN.{length, getD};
+ghost use Rattle.rules.specs.Month.{hours};
 ghost use Rattle.rules.specs.Sheet.{monthUnder, producerAt};
-ghost use Rattle.rules.specs.Limits.{MonthLimits};
 ghost use Rattle.rules.specs.ControlHours.{controlCount, average};
 ghost use Rattle.rules.specs.Bands.{bandOf, thousandths};
 ghost use Rattle.rules.specs.Cut.{summedCapacity};
 ghost use Rattle.rules.specs.Coefficients.{share, lessPenalty, coefficients};
 ghost use Rattle.producer.specs.Sums.{volumesOf, sumsOf};
-ghost use Rattle.settlement.specs.Carried.{termsAt, Known};
+ghost use Rattle.terms.specs.Terms.{termsAt, termsOf, noTerms, withTerms};
+use coefficients::bids;
+use coefficients::overuse;
+use coefficients::penalty;
+use coefficients::plans;
 use fields::half;
 use fields::word;
-use figures::share;
+use figures::ONE;
+use figures::less;
+use figures::nearest;
 use producer::Sums;
 use producer::Volumes;
-use producer::bids;
 use producer::control_count;
 use producer::hour_sums;
-use producer::less;
-use producer::less_penalty;
-use producer::overuse;
-use producer::penalty;
-use producer::plans;
 use producer::row_volumes;
 use rules::Header;
 use sheet::producer_at;
@@ -32,33 +33,49 @@ pub struct Terms {
     pub ks: [u64; 10],
 }
 
+// 1 - n × D / T.
+fn less_penalty(support: u64, penalty: u64) -> u64
+    requires { ⌜ support ≤ 1095216660225 ⌝ }
+    ensures { λ r. ⌜ r ≡ lessPenalty support penalty ⌝ }
+{
+    if support == 0 {
+        if penalty == 0 {
+            return ONE;
+        }
+        return 0;
+    }
+    let whole = 10 * support;
+    nearest(less(whole, penalty) * ONE, whole)
+}
+
 // k1.
 fn k1_of(counted: u64, count: u64, deductible: u32, support: u64) -> u64
-    requires { ⌜ average counted count ≤ 100000 ⌝ }
-    requires { ⌜ support ≤ 3200000 ⌝ }
+    requires { ⌜ (counted ≤ 4294967295 * count) × (support ≤ 1095216660225) ⌝ }
     ensures { λ r. ⌜ r
         ≡ lessPenalty support
         (bandOf (thousandths (average counted count - deductible) deductible) * (average counted count - deductible)) ⌝ }
 {
     let over = overuse(counted, count, deductible) as u32;
-    less_penalty(support as u32, penalty(over, deductible))
+    less_penalty(support, penalty(over, deductible))
 }
 
 // k4.
 fn k4_of(sums: Sums) -> u64
-    requires { ⌜ (sums .met ≤ 74400000) × (sums .asked ≤ 74400000) ⌝ }
+    requires { ⌜ sums .met ≤ 3195455667480 ⌝ }
     ensures { λ r. ⌜ r ≡ share (sums .met) (sums .asked) ⌝ }
 {
-    share(sums.met as u32, sums.asked as u32)
+    if sums.asked == 0 {
+        return ONE;
+    }
+    nearest(sums.met * ONE, sums.asked)
 }
 
 // k1 to k10 of producer p, whose figures begin at a place.
 fn ks_of(s: &[u8], h: Header, p: u8, at: usize, v: Volumes, sums: Sums, count: u64) -> [u64; 10]
-    requires { ⌜ MonthLimits (monthUnder h (now s)) ⌝ }
-    requires { ⌜ (p < h .producers) × (at ≡ producerAt h p) × (at ≤ 20000000) ⌝ }
-    requires { ⌜ v ≡ volumesOf (monthUnder h (now s)) p ⌝ }
+    requires { ⌜ (h .days ≤ 31) × (at ≡ producerAt h p) × (at ≤ 20000000) ⌝ }
+    requires { ⌜ (v ≡ volumesOf (monthUnder h (now s)) p) × (v .support ≤ 1095216660225) ⌝ }
     requires { ⌜ sums ≡ sumsOf h (monthUnder h (now s) .producer p) (summedCapacity (monthUnder h (now s)) p) ⌝ }
-    requires { ⌜ count ≡ controlCount h ⌝ }
+    requires { ⌜ (sums .met ≤ 4294967295 * hours h) × (sums .counted ≤ 4294967295 * count) × (count ≡ controlCount h) ⌝ }
     ensures { λ r. ⌜ r ≡ coefficients (monthUnder h (now (s .entry))) p ⌝ }
 {
     let hours = 24 * (h.days as u32);
@@ -78,9 +95,7 @@ fn ks_of(s: &[u8], h: Header, p: u8, at: usize, v: Volumes, sums: Sums, count: u
 
 // Producer p's excess and coefficients, before the first row.
 fn terms_of(s: &[u8], h: Header, p: u8, count: u64) -> Terms
-    requires { ⌜ MonthLimits (monthUnder h (now s)) ⌝ }
-    requires { ⌜ p < h .producers ⌝ }
-    requires { ⌜ count ≡ controlCount h ⌝ }
+    requires { ⌜ (h .days ≤ 31) × (count ≡ controlCount h) ⌝ }
     ensures { λ r. ⌜ r ≡ termsAt (monthUnder h (now (s .entry))) p 0 ⌝ }
 {
     let at = producer_at(h, p);
@@ -93,19 +108,29 @@ fn terms_of(s: &[u8], h: Header, p: u8, count: u64) -> Terms
     Terms { excess, ks }
 }
 
-// The excess and the coefficients of every producer, before the first row.
-pub(crate) fn all_terms(s: &[u8], h: Header) -> [Terms; 6]
-    requires { ⌜ MonthLimits (monthUnder h (now s)) ⌝ }
-    ensures { λ r. ⌜ Known (monthUnder h (now (s .entry))) 0 (h .producers) r ⌝ }
+// How many producers have terms: at most six, and none in a month of more than 31 days.
+fn with_terms(h: Header) -> u8
+    ensures { λ r. ⌜ (r ≡ withTerms h) × (r ≤ 6) × (0 < r → h .days ≤ 31) ⌝ }
 {
-    let count = control_count(h);
+    if 31 < h.days {
+        return 0;
+    }
+    if h.producers < 6 { h.producers } else { 6 }
+}
+
+// The excess and the coefficients of every producer, before the first row.
+pub fn all_terms(s: &[u8], h: Header) -> [Terms; 6]
+    ensures { λ r. ⌜ (length r ≡ 6) × ((p : ℕ) → p < 6 → getD r p noTerms ≡ termsOf (monthUnder h (now (s .entry))) p) ⌝ }
+{
     let none = Terms {
         excess: 0,
         ks: [0; 10],
     };
     let mut terms = [none; 6];
+    let count = control_count(h);
+    let n = with_terms(h);
     let mut p: u8 = 0;
-    while p < h.producers {
+    while p < n {
         let i = p as usize;
         let t = terms_of(s, h, p, count);
         terms[i] = t;

@@ -1,0 +1,67 @@
+-- A producer's terms before the first row, and the array that holds them. Assumes nothing.
+use mathlib.Core.Path.{_≡_, refl, sym, ap, _∙_}
+use mathlib.Core.Bool.{Bool, true, false, cond}
+use mathlib.Core.List.{List}
+use Prim.Native.Nat.{ℕ, _+_, _-_, _≤_, _<_, min}
+use native.Mathlib.Omega.{arith}
+use borrow.Author.Tests.{eqb-true, eqb-false, ltb-true, ltb-false, lt-ltb, le-ltb}
+use lib.Dec.{eqb, ltb}
+use lib.ListN.{length, getD, set, replicate, length-set, length-replicate, getD-replicate}
+use lib.Seq.{getD-set-same, getD-set-other}
+use Rattle.rules.specs.Month.{Month}
+use Rattle.rules.specs.Limits.{HeaderLimits}
+use Rattle.rules.specs.Cut.{ownVolume, supportVolume, bilateralVolume, summedCapacity, excess, leftToCut}
+use Rattle.laws.proofs.Range.{sum-none}
+use Rattle.producer.specs.declared.Volumes.{Volumes}
+use Rattle.producer.specs.Sums.{volumesOf}
+use Rattle.terms.specs.declared.Terms.{Terms}
+use Rattle.terms.specs.Terms.{termsAt, noTerms, withTerms, termsOf, Known}
+
+pub summed-is : (m : Month) (p : ℕ) (v : Volumes) (d : ℕ) → v ≡ volumesOf m p → d ≡ m .producer p .deductible
+    → v .support + v .bilateral + d ≡ summedCapacity m p
+unfolding summedCapacity
+summed-is m p v d e q = rw (e, q)
+
+-- Before the first row all of the excess is left.
+pub left-first : (m : Month) (p : ℕ) → leftToCut m p 0 ≡ summedCapacity m p - m .producer p .ownNeeds - m .producer p .attested
+unfolding leftToCut excess
+left-first m p = omega (arith, sum-none (ownVolume m p))
+
+-- An array of six with the terms of the first n producers.
+abbrev upTo : Month → ℕ → ℕ → Terms
+upTo m n p = cond (ltb p n) (termsAt m p 0) noTerms
+
+pub record Filled (m : Month) (n : ℕ) (ts : List Terms) : Type 0 where
+  pub six : length ts ≡ 6
+  pub each : (p : ℕ) → p < 6 → getD ts p noTerms ≡ upTo m n p
+
+pub filled-none : (m : Month) → Filled m 0 (replicate 6 noTerms)
+filled-none m =
+    record {
+      six = length-replicate {A = Terms} 6 noTerms;
+      each = λ p l. getD-replicate {A = Terms} 6 p noTerms noTerms l ∙ sym (rw (le-ltb p 0 (omega arith)));
+    }
+
+-- Of a producer other than p it is the same whether p is below n or p + 1.
+below-more : (q p : ℕ) → (q ≡ p → ⊥) → ltb q (p + 1) ≡ ltb q p
+below-more q p n = go (ltb q p) refl
+  where
+    go : (b : Bool) → ltb q p ≡ b → ltb q (p + 1) ≡ b
+    go true e = lt-ltb q (p + 1) (omega (arith, ltb-true q p e))
+    go false e = le-ltb q (p + 1) (omega (arith, ltb-false q p e, n))
+
+pub filled-more : (m : Month) (p : ℕ) (ts : List Terms) (t : Terms) → Filled m p ts → p < 6 → t ≡ termsAt m p 0 → Filled m (p + 1) (set ts p t)
+filled-more m p ts t k l e = record { six = length-set ts p t ∙ k .six; each = λ q b. go q b (eqb q p) refl }
+  where
+    go : (q : ℕ) → q < 6 → (b : Bool) → eqb q p ≡ b → getD (set ts p t) q noTerms ≡ upTo m (p + 1) q
+    go q b true same =
+        rw (eqb-true q p same, lt-ltb p (p + 1) (omega arith)) (getD-set-same ts p t noTerms (omega (arith, k .six)) ∙ e)
+    go q b false other =
+        let n = eqb-false q p other in
+        rw (below-more q p n) (getD-set-other ts p q t noTerms n ∙ k .each q b)
+
+-- In a month within its limits every producer has its terms.
+pub known-first : (m : Month) (ts : List Terms) → HeaderLimits (m .header) → length ts ≡ 6 → ((p : ℕ) → p < 6 → getD ts p noTerms ≡ termsOf m p)
+    → Known m 0 (m .header .producers) ts
+unfolding termsOf withTerms
+known-first m ts w six each = record { six = six; each = λ p l. each p (omega (arith, w .producers)) ∙ rw (le-ltb 31 (m .header .days) (w .days-to), lt-ltb p (min (m .header .producers) 6) (omega (arith, w .producers))) }

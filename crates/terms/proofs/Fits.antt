@@ -1,0 +1,10 @@
+-- What the sums over a month's hours are at most, whatever the bytes, so that they fit. Assumes nothing.
+use mathlib.Core.Path.{_≡_}
+use Prim.Native.Nat.{ℕ, _*_, _≤_}
+use Rattle.rules.specs.ControlHours.{average}
+use Rattle.laws.proofs.Units.{rounded-at-most}
+use Rattle.laws.proofs.Coefficients.{average-is}
+
+-- The average of four-byte figures is a four-byte figure.
+pub average-fits : (n : ℕ) {total : ℕ} → total ≤ 4294967295 * n → average total n ≤ 4294967295
+average-fits n h = rw average-is (rounded-at-most 4294967295 n h)

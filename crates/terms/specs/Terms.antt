@@ -1,0 +1,33 @@
+-- What a producer's rows are settled by: what is left to cut of them, and k1 to k10.
+use Prim.Native.Nat.{ℕ, _<_, min}
+use mathlib.Core.Path.{_≡_}
+use mathlib.Core.Bool.{cond}
+use mathlib.Core.List.{List}
+use lib.ListN.{length, getD, replicate}
+use lib.Dec.{ltb}
+use Rattle.rules.specs.declared.Header.{Header}
+use Rattle.rules.specs.Month.{Month}
+use Rattle.rules.specs.Cut.{leftToCut}
+use Rattle.rules.specs.Coefficients.{coefficients}
+use Rattle.terms.specs.declared.Terms.{Terms}
+
+-- Producer p when row j's turn comes. [Cut; Coefficients]
+abbrev pub termsAt : Month → ℕ → ℕ → Terms
+termsAt m p j = record { excess = leftToCut m p j; ks = coefficients m p }
+
+-- No producer: nothing to cut, and coefficients of 0.
+abbrev pub noTerms : Terms
+noTerms = record { excess = 0; ks = replicate 10 0 }
+
+-- How many producers have terms: at most six, and none in a month of more than 31 days.
+unfoldable pub withTerms : Header → ℕ
+withTerms h = cond (ltb 31 (h .days)) 0 (min (h .producers) 6)
+
+-- Before the first row: the terms of producer p where there is one.
+unfoldable pub termsOf : Month → ℕ → Terms
+termsOf m p = cond (ltb p (withTerms (m .header))) (termsAt m p 0) noTerms
+
+-- The first n producers when row j's turn comes, in an array of six.
+pub record Known (m : Month) (j n : ℕ) (terms : List Terms) : Type 0 where
+  pub six : length terms ≡ 6
+  pub each : (p : ℕ) → p < n → getD terms p noTerms ≡ termsAt m p j
