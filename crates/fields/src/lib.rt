@@ -62,8 +62,8 @@ pub fn put_byte(part: &mut [u8], v: u8)
     part[0] = v;
 }
 
-// Four bytes at the front of a lent part, if the part has room; its other bytes stay.
-pub fn put_word(part: &mut [u8], v: u32)
+// The last four bytes of a number at the front of a lent part, if the part has room; its other bytes stay.
+pub fn put_word(part: &mut [u8], v: u64)
     ensures { λ _. ⌜ now (part .exit) ≡ placed (bytesOf 4 v) (now (part .entry)) ⌝ }
 {
     if part.len() < 4 {

@@ -105,11 +105,11 @@ no-bit-above : (x k : ℕ) → ltb 0 (x / 2 ^ k) ≡ false → x < 2 ^ k
 no-bit-above x k e = rw (one-mul (2 ^ k)) at (div-lt-iff-lt-mul {x = x} {y = 1} (pow-pos k) .0 (omega (arith, ltb-false 0 (x / 2 ^ k) e)))
 
 -- One figure within a ceiling, as its test has it.
-high-clear : (v : ℕ) → tooHigh v ≡ false → v ≤ tenthsCeiling
+pub high-clear : (v : ℕ) → tooHigh v ≡ false → v ≤ tenthsCeiling
 unfolding tooHigh
 high-clear v e = ltb-false _ _ e
 
-clear-high : (v : ℕ) → v ≤ tenthsCeiling → tooHigh v ≡ false
+pub clear-high : (v : ℕ) → v ≤ tenthsCeiling → tooHigh v ≡ false
 unfolding tooHigh
 clear-high v l = le-ltb _ _ l
 
@@ -117,7 +117,7 @@ dear-clear : (v : ℕ) → tooDear v ≡ false → v ≤ tiynCeiling
 unfolding tooDear
 dear-clear v e = ltb-false _ _ e
 
-clear-dear : (v : ℕ) → v ≤ tiynCeiling → tooDear v ≡ false
+pub clear-dear : (v : ℕ) → v ≤ tiynCeiling → tooDear v ≡ false
 unfolding tooDear
 clear-dear v l = le-ltb _ _ l
 
@@ -235,7 +235,7 @@ module _ (h : Header) where
       go true e = refl
       go false e = lt-leb _ _ (l .consumer (eqb-false _ _ e))
 
-  consumer-limits : (c : Consumer) → highConsumer c ≡ false → tooDear (c .price) ≡ false → badFactor h c ≡ false → ConsumerLimits h c
+  pub consumer-limits : (c : Consumer) → highConsumer c ≡ false → tooDear (c .price) ≡ false → badFactor h c ≡ false → ConsumerLimits h c
   unfolding highConsumer badFactor
   consumer-limits c e9 e11 e12 =
       let a = none-of _ e9 in
@@ -250,11 +250,11 @@ module _ (h : Header) where
         z-to = ltb-false _ _ (b .1 .1 .1 .0);
       }
 
-  consumer-clear : (c : Consumer) → ConsumerLimits h c → highConsumer c ≡ false
+  pub consumer-clear : (c : Consumer) → ConsumerLimits h c → highConsumer c ≡ false
   unfolding highConsumer
   consumer-clear c l = all-fail _ (clear-high _ (l .contract), (clear-high _ (l .peak), tt))
 
-  factor-clear : (c : Consumer) → ConsumerLimits h c → badFactor h c ≡ false
+  pub factor-clear : (c : Consumer) → ConsumerLimits h c → badFactor h c ≡ false
   unfolding badFactor
   factor-clear c l =
       all-fail _ (

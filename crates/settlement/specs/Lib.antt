@@ -1,3 +1,2 @@
 pub mod Said
 pub mod Carried
-pub mod Lines

@@ -15,7 +15,6 @@ use sheet::room_refusal;
 mod consumers;
 mod result;
 mod rows;
-mod terms;
 
 // What a settlement answers: a refusal with its number, or the count of bytes written.
 pub enum Answer {

@@ -15,7 +15,7 @@ use Rattle.laws.proofs.Range.{sum-none}
 use Rattle.producer.specs.declared.Volumes.{Volumes}
 use Rattle.producer.specs.Sums.{volumesOf}
 use Rattle.terms.specs.declared.Terms.{Terms}
-use Rattle.terms.specs.Terms.{termsAt, noTerms, withTerms, termsOf, Known}
+use Rattle.terms.specs.Terms.{termsAt, noTerms, zeroTerms, withTerms, termsOf, Known}
 
 pub summed-is : (m : Month) (p : ℕ) (v : Volumes) (d : ℕ) → v ≡ volumesOf m p → d ≡ m .producer p .deductible
     → v .support + v .bilateral + d ≡ summedCapacity m p
@@ -29,17 +29,17 @@ left-first m p = omega (arith, sum-none (ownVolume m p))
 
 -- An array of six with the terms of the first n producers.
 abbrev upTo : Month → ℕ → ℕ → Terms
-upTo m n p = cond (ltb p n) (termsAt m p 0) noTerms
+upTo m n p = cond (ltb p n) (termsAt m p 0) zeroTerms
 
 pub record Filled (m : Month) (n : ℕ) (ts : List Terms) : Type 0 where
   pub six : length ts ≡ 6
   pub each : (p : ℕ) → p < 6 → getD ts p noTerms ≡ upTo m n p
 
-pub filled-none : (m : Month) → Filled m 0 (replicate 6 noTerms)
+pub filled-none : (m : Month) → Filled m 0 (replicate 6 zeroTerms)
 filled-none m =
     record {
-      six = length-replicate {A = Terms} 6 noTerms;
-      each = λ p l. getD-replicate {A = Terms} 6 p noTerms noTerms l ∙ sym (rw (le-ltb p 0 (omega arith)));
+      six = length-replicate {A = Terms} 6 zeroTerms;
+      each = λ p l. getD-replicate {A = Terms} 6 p zeroTerms noTerms l ∙ sym (rw (le-ltb p 0 (omega arith)));
     }
 
 -- Of a producer other than p it is the same whether p is below n or p + 1.

@@ -2,7 +2,7 @@
 use Prim.Native.Nat.{ℕ, _<_, min}
 use mathlib.Core.Path.{_≡_}
 use mathlib.Core.Bool.{cond}
-use mathlib.Core.List.{List}
+use mathlib.Core.List.{List, []}
 use lib.ListN.{length, getD, replicate}
 use lib.Dec.{ltb}
 use Rattle.rules.specs.declared.Header.{Header}
@@ -15,9 +15,13 @@ use Rattle.terms.specs.declared.Terms.{Terms}
 abbrev pub termsAt : Month → ℕ → ℕ → Terms
 termsAt m p j = record { excess = leftToCut m p j; ks = coefficients m p }
 
--- No producer: nothing to cut, and coefficients of 0.
+-- Past the end of an array of terms.
 abbrev pub noTerms : Terms
-noTerms = record { excess = 0; ks = replicate 10 0 }
+noTerms = record { excess = 0; ks = [] }
+
+-- In the array, where there is no producer: nothing to cut, and coefficients of 0.
+abbrev pub zeroTerms : Terms
+zeroTerms = record { excess = 0; ks = replicate 10 0 }
 
 -- How many producers have terms: at most six, and none in a month of more than 31 days.
 unfoldable pub withTerms : Header → ℕ
@@ -25,7 +29,7 @@ withTerms h = cond (ltb 31 (h .days)) 0 (min (h .producers) 6)
 
 -- Before the first row: the terms of producer p where there is one.
 unfoldable pub termsOf : Month → ℕ → Terms
-termsOf m p = cond (ltb p (withTerms (m .header))) (termsAt m p 0) noTerms
+termsOf m p = cond (ltb p (withTerms (m .header))) (termsAt m p 0) zeroTerms
 
 -- The first n producers when row j's turn comes, in an array of six.
 pub record Known (m : Month) (j n : ℕ) (terms : List Terms) : Type 0 where

@@ -1,0 +1,257 @@
+#!/usr/bin/env python3
+"""The sheets that the two programs are compared on, drawn from a seed: the same seed gives the same bytes.
+
+  compare/sheets.py SEED COUNT FILE    writes the first COUNT cases of a seed to FILE and lists their kinds
+
+A case is a kind, a sheet's bytes and the length of the result buffer. A kind is "group/corner", as
+"refusal_4/days_27". The corners of a group come in turn, so each is reached however the seed falls; all else in a
+sheet is drawn.
+"""
+import random
+import sys
+from copy import deepcopy
+from functools import partial
+from typing import NamedTuple
+
+sys.dont_write_bytecode = True
+
+import accepted
+import refused
+from records import ONE, TOP_CAPACITY, TOP_Z, result_length
+
+LONGEST_BUFFER = 2000
+
+
+class Case(NamedTuple):
+    kind: str
+    sheet: bytes
+    buffer: int
+
+
+class Pair(NamedTuple):
+    """Two accepted sheets in the relation of demand 3."""
+    kind: str
+    first: bytes
+    second: bytes
+
+
+BUFFERS = ("none", "shorter", "shorter_by_one", "exact", "longer_by_one", "much_longer")
+
+# The corners of each group; a corner draws a Sheet, or bytes where the sheet is damaged.
+GROUPS = {
+    "checked_months": accepted.CHECKED_MONTHS,
+    "slips": accepted.SLIPS,
+    **{f"refusal_{number}": corners for number, corners in refused.REFUSALS.items()},
+    "several_rules": refused.SEVERAL_RULES,
+    "bands_of_k1": accepted.BANDS_OF_K1,
+    "bands_of_consumers": accepted.BANDS_OF_CONSUMERS,
+    "ties": accepted.TIES,
+    "zero_counts": {**accepted.ZERO_COUNTS, "rows_without_producers": refused.rows_without_producers},
+    "months": accepted.MONTHS,
+    "ceilings": accepted.CEILINGS,
+    "cut": accepted.CUT,
+    "credits": accepted.CREDITS,
+    "largest": accepted.LARGEST,
+    "damaged": refused.DAMAGED,
+    "buffers": {form: refused.accepted_sheet for form in BUFFERS},
+    "ordinary": accepted.ORDINARY,
+}
+
+# Cases of each group in a hundred.
+SHARES = {
+    "checked_months": 1, "slips": 4, "several_rules": 8, "bands_of_k1": 10, "bands_of_consumers": 8, "ties": 10,
+    "zero_counts": 3, "months": 8, "ceilings": 4, "cut": 5, "credits": 5, "largest": 2, "damaged": 6, "buffers": 4,
+    "ordinary": 10, **{f"refusal_{number}": 1 for number in range(1, 13)},
+}
+
+
+def make_schedule():
+    """Which group each case of a hundred is of, and the how manieth of its group: first one of each, then a second."""
+    schedule = []
+    for number in range(max(SHARES.values())):
+        schedule.extend((group, number) for group in GROUPS if number < SHARES[group])
+    return schedule
+
+
+SCHEDULE = make_schedule()
+
+# ------------------------------------------------------------------ cases
+
+
+def draw_buffer(rng, needed):
+    """A buffer that is long enough."""
+    form = rng.random()
+    if form < 0.6:
+        return min(needed, LONGEST_BUFFER)
+    if form < 0.75:
+        return min(needed + 1, LONGEST_BUFFER)
+    return max(LONGEST_BUFFER - rng.randrange(600), min(needed, LONGEST_BUFFER))
+
+
+def buffer_of(rng, form, needed):
+    if form == "exact":
+        return needed
+    if form == "longer_by_one":
+        return needed + 1
+    if form == "much_longer":
+        return rng.randrange(needed + 2, LONGEST_BUFFER + 1)
+    return refused.short_buffer(rng, form, needed)
+
+
+def draw_case(rng, group, corner):
+    kind = f"{group}/{corner}"
+    if group == "several_rules":
+        return Case(kind, *refused.several_rules(rng, *refused.SEVERAL_RULES[corner]))
+    drawn = GROUPS[group][corner](rng)
+    sheet = drawn if isinstance(drawn, bytes) else drawn.to_bytes()
+    needed = result_length(sheet[12], sheet[13]) if len(sheet) >= 14 else result_length(0, 0)
+    if group == "refusal_7" or group == "buffers":
+        buffer = buffer_of(rng, corner, needed)
+    elif group.startswith("refusal_") and int(group[8:]) < 7 and rng.random() < 0.3:
+        buffer = rng.choice((0, 20, needed - 1)) % LONGEST_BUFFER
+    else:
+        buffer = draw_buffer(rng, needed)
+    return Case(kind, sheet, buffer)
+
+
+def case(seed, index):
+    group, number = SCHEDULE[index % len(SCHEDULE)]
+    turn = index // len(SCHEDULE) * SHARES[group] + number
+    corners = list(GROUPS[group])
+    return draw_case(random.Random(f"{seed}/{index}"), group, corners[turn % len(corners)])
+
+
+def cases(seed, count, start=0):
+    return (case(seed, index) for index in range(start, start + count))
+
+
+def intended_refusal(kind):
+    """The number for which a case was drawn, 0 if it is to be accepted, None if that is left open."""
+    group, corner = kind.split("/")
+    if group.startswith("refusal_"):
+        return int(group[8:])
+    if group == "several_rules":
+        return refused.SEVERAL_RULES[corner][0]
+    if group == "damaged":
+        return None
+    if corner == "rows_without_producers":
+        return 10
+    if group == "buffers" and corner in ("none", "shorter", "shorter_by_one"):
+        return 7
+    return 0
+
+
+# ------------------------------------------------------------------ pairs of demand 3
+
+PAIR_GROUPS = ("bands_of_k1", "bands_of_consumers", "ties", "cut", "credits", "ordinary", "months", "slips")
+
+
+def step(rng, figure):
+    """From the smallest step to the whole figure."""
+    return rng.choice((1, 1, 2, rng.randrange(1, 60), figure // 50 + 1, figure // 7 + 1, figure))
+
+
+def lower(rng, record, name):
+    figure = getattr(record, name)
+    setattr(record, name, max(0, figure - step(rng, figure)))
+
+
+def higher(rng, record, name, top):
+    figure = getattr(record, name)
+    setattr(record, name, min(top, figure + step(rng, figure)))
+
+
+def lower_one(rng, figures, place):
+    figures[place] = max(0, figures[place] - step(rng, figures[place]))
+
+
+def higher_one(rng, figures, place, top):
+    figures[place] = min(top, figures[place] + step(rng, figures[place]))
+
+
+def some_hours(rng, hours):
+    """All of these hours, about half, or one."""
+    form = rng.random()
+    if form < 0.4:
+        return hours
+    if form < 0.8:
+        return [hour for hour in hours if rng.random() < 0.5]
+    return [rng.choice(hours)]
+
+
+def lower_powers(rng, powers):
+    by = step(rng, powers[0])
+    for hour in some_hours(rng, range(len(powers))):
+        powers[hour] = max(0, powers[hour] - by)
+
+
+def higher_powers(rng, powers, hours):
+    by = step(rng, powers[0])
+    for hour in some_hours(rng, hours):
+        powers[hour] = min(TOP_CAPACITY, powers[hour] + by)
+
+
+def places_to_worsen(sheet):
+    """Every place at which the second sheet of a pair may differ, as a change to make there."""
+    month = sheet.month
+    hours = month.control_hours() or range(month.hours)
+    for producer in sheet.producers:
+        yield partial(lower, record=producer, name="attested")
+        yield partial(lower_powers, powers=producer.working)
+        yield partial(higher_powers, powers=producer.outside, hours=hours)
+        for place in range(3):
+            yield partial(higher_one, figures=producer.missing, place=place, top=month.hours)
+        for place in range(6):
+            yield partial(lower_one, figures=producer.given, place=place)
+    for consumer in sheet.consumers:
+        yield partial(higher, record=consumer, name="peak", top=TOP_CAPACITY)
+        yield partial(higher, record=consumer, name="supplier_days", top=month.days)
+        yield partial(higher, record=consumer, name="grid_days", top=month.days)
+        yield partial(higher, record=consumer, name="z", top=TOP_Z)
+
+
+def worsened(rng, sheet):
+    """The second sheet of a pair: alike, or worse in one place, in some, in half of them or in all."""
+    second = deepcopy(sheet)
+    places = list(places_to_worsen(second))
+    form = rng.random()
+    if form < 0.04:
+        count = 0
+    elif form < 0.4:
+        count = 1
+    elif form < 0.75:
+        count = rng.randrange(2, 6)
+    else:
+        count = rng.choice((len(places) // 2, len(places)))
+    for change in rng.sample(places, min(count, len(places))):
+        change(rng)
+    return second
+
+
+def pair(seed, index):
+    rng = random.Random(f"{seed}/pair/{index}")
+    group = "largest" if index % 50 == 49 else PAIR_GROUPS[index % len(PAIR_GROUPS)]
+    corner = rng.choice(list(GROUPS[group]))
+    sheet = GROUPS[group][corner](rng)
+    return Pair(f"{group}/{corner}", sheet.to_bytes(), worsened(rng, sheet).to_bytes())
+
+
+def pairs(seed, count):
+    return (pair(seed, index) for index in range(count))
+
+
+# ------------------------------------------------------------------ command
+
+
+def main(words):
+    import programs
+    if len(words) != 3 or not (words[0].isdecimal() and words[1].isdecimal()):
+        sys.exit("usage: compare/sheets.py SEED COUNT FILE")
+    drawn = list(cases(int(words[0]), int(words[1])))
+    programs.write_cases(words[2], drawn)
+    for index, each in enumerate(drawn):
+        print(index, each.kind, len(each.sheet), each.buffer)
+
+
+if __name__ == "__main__":
+    main(sys.argv[1:])
