@@ -1,7 +1,7 @@
 /*
  * Settles the cases of a file through the module's C entry, and checks what a call leaves in memory.
  *
- *   module IN OUT
+ *   module IN OUT [FIRST]
  *
  * IN holds cases one after another: sheet length (4 bytes, highest first), result buffer length (4), the sheet's bytes.
  * OUT gets for each case: kind (1 byte: 0 result, 1 refusal), byte count or refusal number (4), for kind 0 the result.
@@ -10,7 +10,8 @@
  * either. The sheet's pages are read-only during the call. The buffer, with the bytes before it in its first page, is
  * filled with a pattern: what the call may not write must be as before.
  *
- * Status 1: the module broke a promise (the case's index is printed). Status 2: wrong use, or trouble with a file.
+ * Status 1: the module broke a promise (the case's index is printed; the first case of the file has index FIRST, 0 if
+ * it is not given). Status 2: wrong use, or trouble with a file.
  */
 #define _DEFAULT_SOURCE
 #include <inttypes.h>
@@ -66,7 +67,8 @@ static void on_fault(int number)
         digits[--first] = (char)('0' + index % 10);
         index /= 10;
     } while (index > 0);
-    if (write(STDERR_FILENO, words, sizeof words - 1) < 0 || write(STDERR_FILENO, digits + first, sizeof digits - first) < 0)
+    if (write(STDERR_FILENO, words, sizeof words - 1) < 0 ||
+        write(STDERR_FILENO, digits + first, sizeof digits - first) < 0)
         _exit(TROUBLE);
     _exit(BROKEN_PROMISE);
 }
@@ -193,13 +195,13 @@ static int64_t settle_and_check(const struct room *sheet, const struct room *res
     return answer;
 }
 
-static void settle_cases(FILE *in, FILE *out)
+static void settle_cases(FILE *in, FILE *out, unsigned long first)
 {
     struct room sheet, result;
     uint8_t lengths[8];
     make_room(&sheet);
     make_room(&result);
-    for (case_index = 0; read_whole(in, lengths, sizeof lengths); case_index++) {
+    for (case_index = first; read_whole(in, lengths, sizeof lengths); case_index++) {
         open_room(&sheet, four_bytes(lengths));
         fill(&sheet); /* the bytes before the sheet in its first page */
         if (sheet.length > 0 && !read_whole(in, sheet.buffer, sheet.length))
@@ -213,12 +215,22 @@ static void settle_cases(FILE *in, FILE *out)
     }
 }
 
+static unsigned long index_from(const char *word)
+{
+    char *rest;
+    unsigned long index = strtoul(word, &rest, 10);
+    if (*word < '0' || *word > '9' || *rest != '\0')
+        stop(TROUBLE, "FIRST is to be a number");
+    return index;
+}
+
 int main(int count, char **words)
 {
-    if (count != 3) {
-        fputs("usage: module IN OUT\n", stderr);
+    if (count != 3 && count != 4) {
+        fputs("usage: module IN OUT [FIRST]\n", stderr);
         return TROUBLE;
     }
+    unsigned long first = count == 4 ? index_from(words[3]) : 0;
     page_size = (size_t)sysconf(_SC_PAGESIZE);
     FILE *in = fopen(words[1], "rb");
     if (in == NULL)
@@ -227,7 +239,7 @@ int main(int count, char **words)
     if (out == NULL)
         stop(TROUBLE, "cannot write %s", words[2]);
     watch_for_faults();
-    settle_cases(in, out);
+    settle_cases(in, out, first);
     if (fclose(out) != 0)
         stop(TROUBLE, "writing failed");
     fclose(in);

@@ -152,24 +152,22 @@ def result_figures(sheet, result):
             struct.unpack(">2Q", result[end:end + 16]))
 
 
-def name_of_place(sheet, place):
-    """The field of an accepted sheet's result in which the byte at a place stands."""
-    rows, consumers = sheet[12], sheet[13]
-    if place < 5:
-        return "length" if place < 4 else "version"
-    place -= 5
-    if place < 16 * rows:
-        return f"row {place // 16}, {field_at(place % 16, (('volume after the cut', 4), ('actual volume', 4), ('payment', 8)))}"
-    place -= 16 * rows
-    if place < 25 * consumers:
-        fields = (("credit", 4), ("p", 4), ("n", 1), ("actual volume", 8), ("charge", 8))
-        return f"consumer {place // 25}, {field_at(place % 25, fields)}"
-    return "total paid" if place - 25 * consumers < 8 else "total charged"
+def result_fields(rows, consumers):
+    """The fields of a result in order, each with its width."""
+    yield from (("length", 4), ("version", 1))
+    for number in range(rows):
+        for name, width in (("volume after the cut", 4), ("actual volume", 4), ("payment", 8)):
+            yield f"row {number}, {name}", width
+    for number in range(consumers):
+        for name, width in (("credit", 4), ("p", 4), ("n", 1), ("actual volume", 8), ("charge", 8)):
+            yield f"consumer {number}, {name}", width
+    yield from (("total paid", 8), ("total charged", 8))
 
 
-def field_at(place, fields):
-    for name, width in fields:
+def field_at(sheet, place):
+    """The name of the field that holds the byte at a place of an accepted sheet's result."""
+    for name, width in result_fields(sheet[12], sheet[13]):
         if place < width:
             return name
         place -= width
-    raise ValueError("the place is past the record")
+    return "past the result"

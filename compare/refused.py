@@ -6,7 +6,8 @@ A cause changes an accepted Sheet so that it breaks one rule and no rule with a 
 from dataclasses import dataclass
 from itertools import combinations
 
-from accepted import draw_consumer, draw_sheet, ordinary_month
+from accepted import ordinary_month
+from drawing import draw_consumer, draw_sheet
 from records import (HEADER, LOWEST_Z, MOST_CONSUMERS, MOST_PRODUCERS, MOST_ROWS, ONE, SINGLE_BUYER, TOP_CAPACITY,
                      TOP_PRICE, TOP_Z, Row, result_length)
 
@@ -41,7 +42,7 @@ def backwards(length):
     return int.from_bytes(length.to_bytes(4, "big"), "little")
 
 
-def surplus(count):
+def surplus_of(count):
     def cause(rng, sheet, pick):
         sheet.surplus = count
     return cause
@@ -58,7 +59,7 @@ def added_bytes(rng, sheet, pick):
     sheet.surplus = rng.randrange(1, 50)
 
 
-def version(figure):
+def version_is(figure):
     def cause(rng, sheet, pick):
         sheet.version = figure
     return cause
@@ -68,14 +69,14 @@ def version_other(rng, sheet, pick):
     sheet.version = rng.randrange(3, 255)
 
 
-def days(figure):
+def days_are(figure):
     """The hours stay as many as they were, since number 4 is tried before number 6."""
     def cause(rng, sheet, pick):
         sheet.month = sheet.month._replace(days=figure, holidays=0)
     return cause
 
 
-def weekday(figure):
+def weekday_is(figure):
     def cause(rng, sheet, pick):
         sheet.month = sheet.month._replace(weekday=figure)
     return cause
@@ -109,10 +110,10 @@ def count_past_limit(place, limit):
     return cause
 
 
-def count_of_255(place):
-    """A count far above its limit; the records are not there."""
+def count_stated(place, figure):
+    """A count above its limit; the records are not there."""
     def cause(rng, sheet, pick):
-        state_counts(sheet)[place] = 255
+        state_counts(sheet)[place] = figure
     return cause
 
 
@@ -150,7 +151,7 @@ def figure_of(records, name, top):
     return cause
 
 
-def power(name, place):
+def power_of(name, place):
     """The power of the first hour of the month, the last, or one between."""
     def cause(rng, sheet, pick):
         powers = getattr(pick(sheet.producers), name)
@@ -191,7 +192,7 @@ def mining_days(name, far):
     return cause
 
 
-def z(figure):
+def z_is(figure):
     def cause(rng, sheet, pick):
         pick(sheet.consumers).z = figure
     return cause
@@ -199,19 +200,20 @@ def z(figure):
 
 def causes_of_length():
     """Numbers 2, 3 and 6."""
-    for name, change in (("one_more", lambda true: true + 1), ("one_less", lambda true: true - 1), ("nought", lambda true: 0),
-                         ("all_ones", lambda true: LARGEST_4), ("lowest_byte_first", backwards),
-                         ("65536_more", lambda true: true + 65536), ("half_of_all", lambda true: true + 2 ** 31)):
+    for name, change in (("one_more", lambda true: true + 1), ("one_less", lambda true: true - 1),
+                         ("nought", lambda true: 0), ("all_ones", lambda true: LARGEST_4),
+                         ("65536_more", lambda true: true + 65536), ("highest_bit", lambda true: true + 2 ** 31),
+                         ("lowest_byte_first", backwards)):
         yield 2, name, "", length_field(change)
     yield 2, "bytes_lost", "consumers", lost_bytes
     yield 2, "bytes_added", "", added_bytes
     for figure in (0, 2, 255):
-        yield 3, f"version_{figure}", "", version(figure)
+        yield 3, f"version_{figure}", "", version_is(figure)
     yield 3, "version_other", "", version_other
     for name, count in (("one_byte_more", 1), ("a_row_more", 10), ("65536_bytes_more", 65536)):
-        yield 6, name, "", surplus(count)
+        yield 6, name, "", surplus_of(count)
     for name, count in (("one_byte_less", -1), ("a_consumer_less", -15)):
-        yield 6, name, "consumers", surplus(count)
+        yield 6, name, "consumers", surplus_of(count)
     for place, records in enumerate(("producers", "rows", "consumers")):
         yield 6, f"{records}_one_more", records, count_other(place, 1)
         yield 6, f"{records}_one_less", records, count_other(place, -1)
@@ -221,16 +223,17 @@ def causes_of_length():
 def causes_of_month_and_counts():
     """Numbers 4 and 5."""
     for figure in (27, 32, 0, 255):
-        yield 4, f"days_{figure}", "", days(figure)
+        yield 4, f"days_{figure}", "", days_are(figure)
     for figure in (0, 8, 255):
-        yield 4, f"weekday_{figure}", "", weekday(figure)
+        yield 4, f"weekday_{figure}", "", weekday_is(figure)
     yield 4, "holiday_next", "", holiday_next
     yield 4, "holiday_highest", "", holiday_highest
     yield 4, "holidays_all_bits", "", holidays_all_bits
     for place, (records, limit) in enumerate((("producers", MOST_PRODUCERS), ("rows", MOST_ROWS),
                                               ("consumers", MOST_CONSUMERS))):
         yield 5, f"{records}_{limit + 1}", records, count_past_limit(place, limit)
-        yield 5, f"{records}_255", "", count_of_255(place)
+        yield 5, f"{records}_{limit + 1}_stated", "", count_stated(place, limit + 1)
+        yield 5, f"{records}_255_stated", "", count_stated(place, 255)
 
 
 def causes_of_figures():
@@ -243,7 +246,7 @@ def causes_of_figures():
         yield 9, name, "producers", figure_of("producers", name, TOP_CAPACITY)
     for name in ("working", "possible", "outside"):
         for place in ("first", "last", "middle"):
-            yield 9, f"{name}_{place}_hour", "producers", power(name, place)
+            yield 9, f"{name}_{place}_hour", "producers", power_of(name, place)
     yield 9, "row_volume", "rows", figure_of("rows", "volume", TOP_CAPACITY)
     yield 9, "contract", "consumers", figure_of("consumers", "contract", TOP_CAPACITY)
     yield 9, "peak", "consumers", figure_of("consumers", "peak", TOP_CAPACITY)
@@ -262,7 +265,7 @@ def causes_of_figures():
         yield 12, f"{name}_next", "consumers", mining_days(name, far=False)
         yield 12, f"{name}_255", "consumers", mining_days(name, far=True)
     for figure in (0, LOWEST_Z - 1, TOP_Z + 1, 255):
-        yield 12, f"z_{figure}", "consumers", z(figure)
+        yield 12, f"z_{figure}", "consumers", z_is(figure)
 
 
 CAUSES = {number: [] for number in range(1, 13)}
@@ -309,7 +312,8 @@ def short_sheet(count):
 
 
 def short_buffer(rng, form, needed):
-    return {"none": 0, "one_byte": 1, "shorter_by_one": needed - 1, "twenty": 20, "shorter": rng.randrange(needed)}[form]
+    lengths = {"none": 0, "one_byte": 1, "twenty": 20, "shorter_by_one": needed - 1, "shorter": rng.randrange(needed)}
+    return lengths[form]
 
 
 def accepted_sheet(rng):
@@ -322,35 +326,51 @@ REFUSALS[7] = {form: accepted_sheet for form in SHORT_BUFFERS}
 
 # ------------------------------------------------------------------ several rules at once
 
-# Causes that take records away leave nothing to break another rule in.
-CAUSES_TO_JOIN = {number: [cause for cause in causes if cause.change not in (no_producers, no_consumers, consumer_32_of_32)]
-                  for number, causes in CAUSES.items()}
-
-# Every two numbers, the lower first: "3_and_9".
-SEVERAL_RULES = {f"{low}_and_{high}": (low, high) for low, high in combinations(range(1, 13), 2)}
+# Causes that take records away or put others in their place.
+TAKEN_AWAY = {"no_producers": "producers", "no_consumers": "consumers", "consumer_32_of_32": "consumers"}
 
 
-def several_rules(rng, low, high):
-    """Breaks two rules, now and then more, above the lower number. Gives the sheet's bytes and the result buffer's length.
+def causes_to_join(rng, numbers):
+    """A cause of each number, the highest number first; none takes away the records that another one changes."""
+    while True:
+        causes = [rng.choice(CAUSES[number]) for number in sorted(numbers, reverse=True) if CAUSES[number]]
+        taken_away = {TAKEN_AWAY.get(cause.name) for cause in causes}
+        if not taken_away & {cause.touches for cause in causes}:
+            return causes
+
+
+def break_rules(rng, low, high):
+    """Breaks two rules, now and then more that are not below them. Gives the sheet's bytes and the buffer's length.
 
     As a rule the lower number is broken in the last record and the higher one in the first, so that a program that
     goes through the sheet once and answers with what it meets first is found out.
     """
-    sheet = draw_sheet(rng, rng.randrange(1, 3), rng.randrange(2, 5), rng.randrange(2, 5))
-    needed = result_length(len(sheet.rows), len(sheet.consumers))
     numbers = {low, high}
     while rng.random() < 0.25:
         numbers.add(rng.randrange(low, 13))
-    # The highest first: a cause of the length is to see the sheet as it will be handed over.
-    for number in sorted(numbers, reverse=True):
-        if CAUSES[number]:
-            usual = last_of if number == low else first_of
-            rng.choice(CAUSES_TO_JOIN[number]).change(rng, sheet, rng.choice((usual, usual, rng.choice)))
+    causes = causes_to_join(rng, numbers)
+    touched = {cause.touches for cause in causes}
+    producers = rng.randrange(1, 3) if touched & {"producers", "rows"} or rng.random() < 0.3 else 0
+    sheet = draw_sheet(rng, producers, rng.randrange(2, 5) if producers else 0, rng.randrange(2, 5))
+    # A cause of the length comes last: it is to see the sheet as it will be handed over.
+    for cause in causes:
+        usual = last_of if cause.number == low else first_of
+        cause.change(rng, sheet, rng.choice((usual, usual, rng.choice)))
     content = sheet.to_bytes()
     if low == 1:
         content = content[:rng.randrange(HEADER)]
-    return content, short_buffer(rng, rng.choice(SHORT_BUFFERS), needed) if 7 in numbers else needed
+    buffer = result_length(len(sheet.rows), len(sheet.consumers))
+    if 7 in numbers:
+        buffer = short_buffer(rng, rng.choice(SHORT_BUFFERS), buffer)
+    return content, buffer
 
+
+def rules_broken(low, high):
+    return lambda rng: break_rules(rng, low, high)
+
+
+# Every two numbers, the lower first: "3_and_9".
+SEVERAL_RULES = {f"{low}_and_{high}": rules_broken(low, high) for low, high in combinations(range(1, 13), 2)}
 
 # ------------------------------------------------------------------ damaged sheets
 

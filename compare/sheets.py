@@ -16,9 +16,13 @@ from typing import NamedTuple
 sys.dont_write_bytecode = True
 
 import accepted
+import bands
+import programs
 import refused
-from records import ONE, TOP_CAPACITY, TOP_Z, result_length
+import ties
+from records import HEADER, MOST_CONSUMERS, MOST_ROWS, TOP_CAPACITY, TOP_Z, result_length
 
+LONGEST_RESULT = result_length(MOST_ROWS, MOST_CONSUMERS)
 LONGEST_BUFFER = 2000
 
 
@@ -37,15 +41,16 @@ class Pair(NamedTuple):
 
 BUFFERS = ("none", "shorter", "shorter_by_one", "exact", "longer_by_one", "much_longer")
 
-# The corners of each group; a corner draws a Sheet, or bytes where the sheet is damaged.
+# The corners of each group. A corner draws a Sheet, or bytes where the sheet is damaged, or bytes with the length of
+# the result buffer where several rules are broken.
 GROUPS = {
     "checked_months": accepted.CHECKED_MONTHS,
     "slips": accepted.SLIPS,
     **{f"refusal_{number}": corners for number, corners in refused.REFUSALS.items()},
     "several_rules": refused.SEVERAL_RULES,
-    "bands_of_k1": accepted.BANDS_OF_K1,
-    "bands_of_consumers": accepted.BANDS_OF_CONSUMERS,
-    "ties": accepted.TIES,
+    "bands_of_k1": bands.BANDS_OF_K1,
+    "bands_of_consumers": bands.BANDS_OF_CONSUMERS,
+    "ties": ties.TIES,
     "zero_counts": {**accepted.ZERO_COUNTS, "rows_without_producers": refused.rows_without_producers},
     "months": accepted.MONTHS,
     "ceilings": accepted.CEILINGS,
@@ -66,7 +71,7 @@ SHARES = {
 
 
 def make_schedule():
-    """Which group each case of a hundred is of, and the how manieth of its group: first one of each, then a second."""
+    """The group of each case of a hundred, with its number in the group: first one of each group, then a second."""
     schedule = []
     for number in range(max(SHARES.values())):
         schedule.extend((group, number) for group in GROUPS if number < SHARES[group])
@@ -78,17 +83,14 @@ SCHEDULE = make_schedule()
 # ------------------------------------------------------------------ cases
 
 
-def draw_buffer(rng, needed):
-    """A buffer that is long enough."""
-    form = rng.random()
-    if form < 0.6:
-        return min(needed, LONGEST_BUFFER)
-    if form < 0.75:
-        return min(needed + 1, LONGEST_BUFFER)
-    return max(LONGEST_BUFFER - rng.randrange(600), min(needed, LONGEST_BUFFER))
-
-
-def buffer_of(rng, form, needed):
+def draw_buffer(rng, group, corner, needed):
+    """The length of the result buffer; it is too short only where that is what the sheet is for, or does not matter."""
+    if group in ("buffers", "refusal_7"):
+        form = corner
+    elif group in (f"refusal_{number}" for number in range(1, 7)):
+        form = rng.choice(BUFFERS)
+    else:
+        form = rng.choices(("exact", "longer_by_one", "much_longer"), (60, 15, 25))[0]
     if form == "exact":
         return needed
     if form == "longer_by_one":
@@ -100,18 +102,13 @@ def buffer_of(rng, form, needed):
 
 def draw_case(rng, group, corner):
     kind = f"{group}/{corner}"
-    if group == "several_rules":
-        return Case(kind, *refused.several_rules(rng, *refused.SEVERAL_RULES[corner]))
     drawn = GROUPS[group][corner](rng)
+    if group == "several_rules":
+        return Case(kind, *drawn)
     sheet = drawn if isinstance(drawn, bytes) else drawn.to_bytes()
-    needed = result_length(sheet[12], sheet[13]) if len(sheet) >= 14 else result_length(0, 0)
-    if group == "refusal_7" or group == "buffers":
-        buffer = buffer_of(rng, corner, needed)
-    elif group.startswith("refusal_") and int(group[8:]) < 7 and rng.random() < 0.3:
-        buffer = rng.choice((0, 20, needed - 1)) % LONGEST_BUFFER
-    else:
-        buffer = draw_buffer(rng, needed)
-    return Case(kind, sheet, buffer)
+    counts = (sheet[12], sheet[13]) if len(sheet) >= HEADER else (0, 0)
+    needed = min(result_length(*counts), LONGEST_RESULT)
+    return Case(kind, sheet, draw_buffer(rng, group, corner, needed))
 
 
 def case(seed, index):
@@ -129,9 +126,9 @@ def intended_refusal(kind):
     """The number for which a case was drawn, 0 if it is to be accepted, None if that is left open."""
     group, corner = kind.split("/")
     if group.startswith("refusal_"):
-        return int(group[8:])
+        return int(group[len("refusal_"):])
     if group == "several_rules":
-        return refused.SEVERAL_RULES[corner][0]
+        return int(corner.split("_")[0])
     if group == "damaged":
         return None
     if corner == "rows_without_producers":
@@ -194,11 +191,13 @@ def higher_powers(rng, powers, hours):
 def places_to_worsen(sheet):
     """Every place at which the second sheet of a pair may differ, as a change to make there."""
     month = sheet.month
-    hours = month.control_hours() or range(month.hours)
+    control_hours = month.control_hours()
     for producer in sheet.producers:
         yield partial(lower, record=producer, name="attested")
         yield partial(lower_powers, powers=producer.working)
-        yield partial(higher_powers, powers=producer.outside, hours=hours)
+        yield partial(higher_powers, powers=producer.outside, hours=range(month.hours))
+        if control_hours:
+            yield partial(higher_powers, powers=producer.outside, hours=control_hours)
         for place in range(3):
             yield partial(higher_one, figures=producer.missing, place=place, top=month.hours)
         for place in range(6):
@@ -236,22 +235,23 @@ def pair(seed, index):
     return Pair(f"{group}/{corner}", sheet.to_bytes(), worsened(rng, sheet).to_bytes())
 
 
-def pairs(seed, count):
-    return (pair(seed, index) for index in range(count))
+def pairs(seed, count, start=0):
+    return (pair(seed, index) for index in range(start, start + count))
 
 
 # ------------------------------------------------------------------ command
 
 
-def main(words):
-    import programs
+def main():
+    words = sys.argv[1:]
     if len(words) != 3 or not (words[0].isdecimal() and words[1].isdecimal()):
-        sys.exit("usage: compare/sheets.py SEED COUNT FILE")
+        raise programs.Trouble("usage: compare/sheets.py SEED COUNT FILE")
     drawn = list(cases(int(words[0]), int(words[1])))
     programs.write_cases(words[2], drawn)
     for index, each in enumerate(drawn):
         print(index, each.kind, len(each.sheet), each.buffer)
+    return 0
 
 
 if __name__ == "__main__":
-    main(sys.argv[1:])
+    programs.end_with("compare/sheets.py", main)

@@ -101,10 +101,10 @@ fn terms_of(s: &[u8], h: Header, p: u8, count: u64) -> Terms
     let at = producer_at(h, p);
     let v = row_volumes(s, h, p);
     let summed = v.support + v.bilateral + word(s, at + 4) as u64;
-    let sums = hour_sums(s, h, p, summed);
-    let ks = ks_of(s, h, p, at, v, sums, count);
     let own = less(summed, word(s, at + 8) as u64);
     let excess = less(own, word(s, at) as u64);
+    let sums = hour_sums(s, h, p, summed);
+    let ks = ks_of(s, h, p, at, v, sums, count);
     Terms { excess, ks }
 }
 
@@ -113,9 +113,12 @@ fn with_terms(h: Header) -> u8
     ensures { λ r. ⌜ (r ≡ withTerms h) × (r ≤ 6) × (0 < r → h .days ≤ 31) ⌝ }
 {
     if 31 < h.days {
-        return 0;
+        0
+    } else if h.producers < 6 {
+        h.producers
+    } else {
+        6
     }
-    if h.producers < 6 { h.producers } else { 6 }
 }
 
 // The excess and the coefficients of every producer, before the first row.

@@ -16,7 +16,7 @@ row-volumes-requires : tie.Need-row-volumes-requires
 row-volumes-requires c κs = search needs
 
 add-summed : tie.Need-add-summed
-add-summed c = omega (arith, c .before .row-volumes .ensures .1)
+add-summed c = search needs
 
 add-word : tie.Need-add-word
 add-word c = search needs
@@ -28,28 +28,7 @@ cast-summed : tie.Need-cast-summed
 cast-summed c = search needs
 
 add-summed-2 : tie.Need-add-summed-2
-add-summed-2 c = omega (arith, c .before .before .row-volumes .ensures .1)
-
-hour-sums-requires : tie.Need-hour-sums-requires
-hour-sums-requires c κs = search needs
-
-ks-of-requires : tie.Need-ks-of-requires
-ks-of-requires c κs =
-    let a = c .before .before .before .before .before .before in
-    let m = (monthUnder (c .before .before .before .before .before .before .args .h) (c .before .before .before .before .before .before .args .s .now)) in
-    let at = c .before .before .before .before .producer-at .ensures in
-    let d = c .before .word .ensures ∙ ap (λ (x : ℕ). bigEndian 4 (a .args .s .now) (x + 4)) (at .0) in
-    let v = c .before .before .before .row-volumes .ensures in
-    let sums = c .hour-sums .ensures in (
-      (a .pre .0, at .0, at .1),
-      (
-        (v .0, v .1 .0),
-        (
-          sums .0 ∙ ap (sumsOf (a .args .h) (m .producer (a .args .p))) (summed-is m (a .args .p) _ _ (v .0) d),
-          (sums .1 .1, rw (a .pre .1) (sums .1 .2), a .pre .1),
-        ),
-      ),
-    )
+add-summed-2 c = search needs
 
 add-word-2 : tie.Need-add-word-2
 add-word-2 c = search needs
@@ -72,21 +51,42 @@ cast-less-2 c = search needs
 less-requires-2 : tie.Need-less-requires-2
 less-requires-2 c κs = search needs
 
+hour-sums-requires : tie.Need-hour-sums-requires
+hour-sums-requires c κs = search needs
+
+ks-of-requires : tie.Need-ks-of-requires
+ks-of-requires c κs =
+    let a = c .before .before .before .before .before .before .before .before .before .before in
+    let m = monthUnder (a .args .h) (a .args .s .now) in
+    let at = c .before .before .before .before .before .before .before .before .producer-at .ensures in
+    let d = c .before .before .before .before .before .word .ensures ∙ ap (λ (x : ℕ). bigEndian 4 (a .args .s .now) (x + 4)) (at .0) in
+    let v = c .before .before .before .before .before .before .before .row-volumes .ensures in
+    let sums = c .hour-sums .ensures in (
+      (a .pre .0, at .0, at .1),
+      (
+        (v .0, v .1 .0),
+        (
+          sums .0 ∙ ap (sumsOf (a .args .h) (m .producer (a .args .p))) (summed-is m (a .args .p) _ _ (v .0) d),
+          (sums .1 .1, rw (a .pre .1) (sums .1 .2), a .pre .1),
+        ),
+      ),
+    )
+
 returns : tie.Need-returns
 returns c =
     let a = c .before .before .before .before .before .before .before .before .before .before .before in
-    let m = (monthUnder (c .before .before .before .before .before .before .before .before .before .before .before .args .h) (c .before .before .before .before .before .before .before .before .before .before .before .args .s .now)) in
+    let m = monthUnder (a .args .h) (a .args .s .now) in
     let at = c .before .before .before .before .before .before .before .before .before .producer-at .ensures .0 in
     let d = c .before .before .before .before .before .before .word .ensures ∙ ap (λ (x : ℕ). bigEndian 4 (a .args .s .now) (x + 4)) at in
-    let own = c .before .before .before .word2 .ensures ∙ ap (λ (x : ℕ). bigEndian 4 (a .args .s .now) (x + 8)) at in
-    let attested = c .before .word3 .ensures ∙ ap (λ (x : ℕ). bigEndian 4 (a .args .s .now) x) at in
+    let own = c .before .before .before .before .before .word2 .ensures ∙ ap (λ (x : ℕ). bigEndian 4 (a .args .s .now) (x + 8)) at in
+    let attested = c .before .before .before .word3 .ensures ∙ ap (λ (x : ℕ). bigEndian 4 (a .args .s .now) x) at in
     rw (
-      c .less2 .ensures,
-      c .before .before .less .ensures,
+      c .before .before .less2 .ensures,
+      c .before .before .before .before .less .ensures,
       summed-is m (a .args .p) _ _ (c .before .before .before .before .before .before .before .before .row-volumes .ensures .0) d,
       own,
       attested,
-      c .before .before .before .before .ks-of .ensures,
+      c .ks-of .ensures,
       left-first,
     )
 
@@ -101,8 +101,6 @@ terms-of-spec =
     word-requires
     cast-summed
     add-summed-2
-    hour-sums-requires
-    ks-of-requires
     add-word-2
     word-requires-2
     cast-less
@@ -110,4 +108,6 @@ terms-of-spec =
     word-requires-3
     cast-less-2
     less-requires-2
+    hour-sums-requires
+    ks-of-requires
     returns)

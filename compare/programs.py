@@ -1,0 +1,141 @@
+"""The rival and the module's driver: building them, the files of cases and answers, running them over cases."""
+import os
+import struct
+import subprocess
+import sys
+from pathlib import Path
+
+from accepted import CHECKED
+from records import result_figures
+
+ROOT = Path(__file__).resolve().parent.parent
+OUT = ROOT / "target" / "compare"
+ARCHIVE = ROOT / "target" / "staticlib" / "libsettlement.a"
+RIVAL = ROOT / "target" / "rival" / "rival"
+MODULE = OUT / "module"
+
+
+LONGEST_WAIT = 300  # seconds
+
+
+class Trouble(Exception):
+    """Something that keeps the work from being done, in plain words."""
+
+
+def end_with(name, main):
+    """Runs a command's main function and ends with its status; trouble is told in plain words."""
+    try:
+        status = main()
+        sys.stdout.flush()
+    except Trouble as trouble:
+        print(f"{name}: {trouble}", file=sys.stderr)
+        status = 2
+    except BrokenPipeError:
+        os.dup2(os.open(os.devnull, os.O_WRONLY), sys.stdout.fileno())
+        status = 2
+    except OSError as trouble:
+        print(f"{name}: {trouble.strerror}: {trouble.filename}", file=sys.stderr)
+        status = 2
+    except KeyboardInterrupt:
+        print(f"{name}: stopped", file=sys.stderr)
+        status = 130
+    sys.exit(status)
+
+
+def run_program(words):
+    """Runs a program to its end; gives its status and what it printed."""
+    words = [str(word) for word in words]
+    try:
+        done = subprocess.run(words, stdout=subprocess.PIPE, stderr=subprocess.STDOUT, timeout=LONGEST_WAIT)
+    except subprocess.TimeoutExpired:
+        raise Trouble(f"{words[0]} did not end within {LONGEST_WAIT} seconds") from None
+    except OSError as error:
+        raise Trouble(f"cannot run {words[0]}: {error.strerror}") from None
+    return done.returncode, done.stdout.decode(errors="replace").strip()
+
+
+def build_rival():
+    status, printed = run_program([ROOT / "rival" / "build"])
+    if status != 0:
+        raise Trouble(f"the rival was not built\n{printed}")
+
+
+def build_module(archive):
+    if not Path(archive).is_file():
+        raise Trouble(f"there is no archive {archive}; make it with: rt staticlib settlement")
+    make_folder(OUT)
+    new = MODULE.with_suffix(".new")
+    status, printed = run_program(["cc", "-std=c99", "-O2", "-Wall", "-Wextra", "-Werror", "-I", ROOT / "include",
+                                   "-o", new, ROOT / "compare" / "module.c", archive])
+    if status != 0:
+        raise Trouble(f"the module's driver was not built\n{printed}")
+    new.replace(MODULE)
+
+
+def make_folder(path):
+    try:
+        Path(path).mkdir(parents=True, exist_ok=True)
+    except OSError as error:
+        raise Trouble(f"cannot make the folder {path}: {error.strerror}") from None
+
+
+def write_file(path, content):
+    try:
+        Path(path).write_bytes(content)
+    except OSError as error:
+        raise Trouble(f"cannot write {path}: {error.strerror}") from None
+
+
+def case_bytes(sheet, buffer):
+    return struct.pack(">2I", len(sheet), buffer) + sheet
+
+
+def write_cases(path, cases):
+    write_file(path, b"".join(case_bytes(case.sheet, case.buffer) for case in cases))
+
+
+def read_answers(path, count):
+    """For each case the refusal's number, or the result's bytes."""
+    try:
+        content = Path(path).read_bytes()
+    except OSError as error:
+        raise Trouble(f"cannot read {path}: {error.strerror}") from None
+    answers, place = [], 0
+    while place + 5 <= len(content):
+        kind, number = struct.unpack_from(">BI", content, place)
+        place += 5
+        if kind == 1:
+            answers.append(number)
+        else:
+            answers.append(content[place:place + number])
+            place += number
+    if len(answers) != count or place != len(content):
+        raise Trouble(f"{path} does not hold the answers to {count} cases")
+    return answers
+
+
+def rival_answers(cases, folder):
+    """Settles cases by the rival, with files in a folder."""
+    asked, answered = Path(folder) / "cases", Path(folder) / "rival"
+    write_cases(asked, cases)
+    status, printed = run_program([RIVAL, "batch", asked, answered])
+    if status != 0:
+        raise Trouble(f"the rival ended with status {status}\n{printed}")
+    return read_answers(answered, len(cases))
+
+
+def check_paper(cases, answers):
+    """The rival's figures for the checked months are the paper's own. Gives the lines that were checked."""
+    wanted = {f"checked_months/{name}": figures for name, _, figures in CHECKED}
+    checked = set()
+    for case, answer in zip(cases, answers):
+        if case.kind not in wanted:
+            continue
+        if isinstance(answer, int):
+            raise Trouble(f"{case.kind}: a month of document 01, but the rival turns it down with {answer}")
+        rows, consumers, _ = result_figures(case.sheet, answer)
+        found = (rows[0].after_cut, rows[0].actual) if rows else consumers[0].actual
+        if found != wanted[case.kind]:
+            raise Trouble(f"{case.kind}: document 01 has {wanted[case.kind]} tenths, the rival {found}")
+        checked.add(case.kind)
+    return checked

@@ -1,0 +1,142 @@
+#!/usr/bin/env python3
+"""Writes stored cases with the rival's answers, one file for each group of sheets; each run writes the same bytes.
+
+  compare/store.py OUTDIR [--expect FILE]
+
+OUTDIR/GROUP.cases holds cases one after another: sheet length (4 bytes, highest first), result buffer length (4),
+kind of answer (1: 0 result, 1 refusal), byte count or refusal number (4), the sheet, for kind 0 the result.
+FILE gets a line for each group, its name and its count of cases, in a fixed order.
+"""
+import argparse
+import random
+import struct
+import sys
+import tempfile
+from pathlib import Path
+
+sys.dont_write_bytecode = True
+
+import programs
+import sheets
+from bands import EDGES
+from programs import Trouble
+
+SEED = 152
+LONGEST_SHEET = 65_000
+MOST_BYTES = 1_500_000
+DRAWS = 40
+
+# A sheet with one producer of 28 days, up to a few rows and consumers; a sheet without producers.
+ONE_PRODUCER, NO_PRODUCER = 8_400, 600
+
+# How often each corner of a group is stored, and the length that its sheets are to have if the corner allows it.
+PLAN = {
+    "checked_months": (1, LONGEST_SHEET),
+    "slips": (1, ONE_PRODUCER),
+    "refusal_1": (3, NO_PRODUCER),
+    "refusal_2": (2, NO_PRODUCER),
+    "refusal_3": (2, NO_PRODUCER),
+    "refusal_4": (2, NO_PRODUCER),
+    "refusal_5": (1, NO_PRODUCER),
+    "refusal_6": (1, NO_PRODUCER),
+    "refusal_7": (3, NO_PRODUCER),
+    "refusal_8": (1, ONE_PRODUCER),
+    "refusal_9": (1, ONE_PRODUCER),
+    "refusal_10": (1, ONE_PRODUCER),
+    "refusal_11": (2, ONE_PRODUCER),
+    "refusal_12": (2, NO_PRODUCER),
+    "several_rules": (1, NO_PRODUCER),
+    "bands_of_k1": (1, ONE_PRODUCER),
+    "bands_of_consumers": (2, NO_PRODUCER),
+    "ties": (1, ONE_PRODUCER),
+    "zero_counts": (1, ONE_PRODUCER),
+    "months": (1, LONGEST_SHEET),
+    "ceilings": (1, ONE_PRODUCER),
+    "cut": (1, ONE_PRODUCER),
+    "credits": (1, ONE_PRODUCER),
+    "largest": (1, LONGEST_SHEET),
+    "damaged": (4, NO_PRODUCER),
+    "buffers": (3, NO_PRODUCER),
+}
+
+
+# What the files leave out, to stay small: other corners reach nearly the same.
+LEFT_OUT = {f"bands_of_k1/{side}_{edge}" for side in ("exact", "exact_next") for edge in EDGES} | {
+    "bands_of_k1/use_below_deductible", "bands_of_k1/small_deductible", "largest/full_counts", "refusal_5/producers_7",
+    "refusal_5/rows_33", "refusal_10/producer_other", "refusal_10/consumer_other", "zero_counts/rows_without_volume"}
+MONTHS_STORED = 28  # all months once, each with the next form of holidays
+
+
+def corners_stored(group):
+    corners = [corner for corner in sheets.GROUPS[group] if f"{group}/{corner}" not in LEFT_OUT]
+    return corners[:MONTHS_STORED] if group == "months" else corners
+
+
+def draw_stored(group, corner, number, length):
+    """The first of some draws that is short enough, or else the shortest."""
+    shortest = None
+    for draw in range(DRAWS):
+        case = sheets.draw_case(random.Random(f"{SEED}/{group}/{corner}/{number}/{draw}"), group, corner)
+        if len(case.sheet) <= length:
+            return case
+        if shortest is None or len(case.sheet) < len(shortest.sheet):
+            shortest = case
+    return shortest
+
+
+def stored_cases(group):
+    times, length = PLAN[group]
+    cases = [draw_stored(group, corner, number, length) for number in range(times) for corner in corners_stored(group)]
+    return [case for case in cases if len(case.sheet) <= LONGEST_SHEET]
+
+
+def check_intended(cases, answers):
+    for case, answer in zip(cases, answers):
+        intended = sheets.intended_refusal(case.kind)
+        answered = answer if isinstance(answer, int) else 0
+        if intended is not None and answered != intended:
+            raise Trouble(f"{case.kind} was drawn for {intended}, the rival answers {answered}; 0 stands for a result")
+
+
+def stored_bytes(case, answer):
+    refused = isinstance(answer, int)
+    front = struct.pack(">2IBI", len(case.sheet), case.buffer, refused, answer if refused else len(answer))
+    return front + case.sheet + (b"" if refused else answer)
+
+
+def read_options():
+    options = argparse.ArgumentParser(prog="compare/store.py",
+                                      description="Writes stored cases with the rival's answers.")
+    options.add_argument("outdir", metavar="OUTDIR", help="the folder for GROUP.cases")
+    options.add_argument("--expect", metavar="FILE", help="gets a line for each group: its name and its count of cases")
+    return options.parse_args()
+
+
+def main():
+    options = read_options()
+    programs.build_rival()
+    programs.make_folder(programs.OUT)
+    files = {}
+    with tempfile.TemporaryDirectory(dir=programs.OUT) as folder:
+        for group in PLAN:
+            cases = stored_cases(group)
+            answers = programs.rival_answers(cases, folder)
+            check_intended(cases, answers)
+            if group == "checked_months":
+                programs.check_paper(cases, answers)
+            files[group] = [stored_bytes(case, answer) for case, answer in zip(cases, answers)]
+    total = sum(len(each) for stored in files.values() for each in stored)
+    if total >= MOST_BYTES:
+        raise Trouble(f"the stored cases take {total} bytes, which is not below {MOST_BYTES}")
+    programs.make_folder(options.outdir)
+    for group, stored in files.items():
+        programs.write_file(Path(options.outdir) / f"{group}.cases", b"".join(stored))
+    lines = "".join(f"{group} {len(stored)}\n" for group, stored in files.items())
+    if options.expect:
+        programs.write_file(options.expect, lines.encode())
+    print(f"stored: {sum(map(len, files.values()))} cases in {len(files)} files, {total} bytes")
+    return 0
+
+
+if __name__ == "__main__":
+    programs.end_with("compare/store.py", main)
