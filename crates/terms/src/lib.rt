@@ -33,6 +33,9 @@ pub struct Terms {
     pub ks: [u64; 10],
 }
 
+// The terms of six producers, as many as a sheet may have.
+pub type AllTerms = [Terms; 6];
+
 // 1 - n × D / T.
 fn less_penalty(support: u64, penalty: u64) -> u64
     requires { ⌜ support ≤ 1095216660225 ⌝ }
@@ -122,7 +125,7 @@ fn with_terms(h: Header) -> u8
 }
 
 // The excess and the coefficients of every producer, before the first row.
-pub fn all_terms(s: &[u8], h: Header) -> [Terms; 6]
+pub fn all_terms(s: &[u8], h: Header) -> AllTerms
     ensures { λ r. ⌜ (length r ≡ 6) × ((p : ℕ) → p < 6 → getD r p noTerms ≡ termsOf (monthUnder h (now (s .entry))) p) ⌝ }
 {
     let none = Terms {
