@@ -54,10 +54,14 @@ def run_program(words):
     return done.returncode, done.stdout.decode(errors="replace").strip()
 
 
-def build_rival():
-    status, printed = run_program([ROOT / "rival" / "build"])
+def build_rival(sources=ROOT / "rival"):
+    """Builds the rival from a folder of sources; from then on it is the rival of this run."""
+    global RIVAL
+    sources = Path(sources).resolve()
+    status, printed = run_program([sources / "build"])
     if status != 0:
         raise Trouble(f"the rival was not built\n{printed}")
+    RIVAL = sources.parent / "target" / "rival" / "rival"
 
 
 def build_module(archive):

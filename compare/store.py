@@ -3,7 +3,7 @@
 
   compare/store.py OUTDIR [--expect FILE]
 
-OUTDIR/GROUP.cases holds cases one after another: sheet length (4 bytes, highest first), result buffer length (4),
+OUTDIR/GROUP holds cases one after another: sheet length (4 bytes, highest first), result buffer length (4),
 kind of answer (1: 0 result, 1 refusal), byte count or refusal number (4), the sheet, for kind 0 the result.
 FILE gets a line for each group, its name and its count of cases, in a fixed order.
 """
@@ -107,7 +107,7 @@ def stored_bytes(case, answer):
 def read_options():
     options = argparse.ArgumentParser(prog="compare/store.py",
                                       description="Writes stored cases with the rival's answers.")
-    options.add_argument("outdir", metavar="OUTDIR", help="the folder for GROUP.cases")
+    options.add_argument("outdir", metavar="OUTDIR", help="the folder for the files, one for each group")
     options.add_argument("--expect", metavar="FILE", help="gets a line for each group: its name and its count of cases")
     return options.parse_args()
 
@@ -130,7 +130,7 @@ def main():
         raise Trouble(f"the stored cases take {total} bytes, which is not below {MOST_BYTES}")
     programs.make_folder(options.outdir)
     for group, stored in files.items():
-        programs.write_file(Path(options.outdir) / f"{group}.cases", b"".join(stored))
+        programs.write_file(Path(options.outdir) / group, b"".join(stored))
     lines = "".join(f"{group} {len(stored)}\n" for group, stored in files.items())
     if options.expect:
         programs.write_file(options.expect, lines.encode())

@@ -1,0 +1,183 @@
+// Settles the stored sheets and compares every answer and every byte with what the rival program answered.
+// A file holds the cases of one kind; a line with the kind and its count of cases is printed where all of them agree.
+use fields::byte;
+use fields::word;
+use libc::STDOUT_FILENO;
+use settlement::Answer;
+use settlement::settle;
+
+// What stands before a case's sheet: the sheet's length, the result buffer's length, and the rival's answer, which is a refusal's number
+// or the count of the bytes that follow the sheet.
+struct Case {
+    length: usize,
+    room: usize,
+    refused: bool,
+    number: usize,
+}
+
+enum Compared {
+    Alike,
+    Different,
+    NoMore,
+}
+
+fn case_of(front: &[u8]) -> Case {
+    Case {
+        length: word(front, 0) as usize,
+        room: word(front, 4) as usize,
+        refused: byte(front, 8) != 0,
+        number: word(front, 9) as usize,
+    }
+}
+
+// The module answers as the rival did.
+fn same_answer(answer: Answer, c: Case) -> bool {
+    match answer {
+        Answer::Refused(number) => c.refused & (number as usize == c.number),
+        Answer::Written(count) => !c.refused & (count == c.number),
+    }
+}
+
+// The sheet settled into a buffer: the answer, the result and the bytes past it are as they should be. `kept` is what the buffer held before.
+fn settles(sheet: &[u8], told: &[u8], c: Case, result: &mut [u8], kept: &[u8]) -> bool {
+    let room = c.room;
+    let count = told.len();
+    if result.len() < room {
+        return false;
+    }
+    let answer = settle(sheet, &mut result[..room]);
+    if result.len() < count {
+        return false;
+    }
+    if kept.len() < count {
+        return false;
+    }
+    let written = check::same(&result[..count], told);
+    let past = check::same(&result[count..], &kept[count..]);
+    same_answer(answer, c) & (written & past)
+}
+
+// The same, into a buffer that is filled with some byte.
+fn agrees(sheet: &[u8], told: &[u8], c: Case, fill: u8) -> bool {
+    let mut result = [fill; 2000];
+    let kept = [fill; 2000];
+    settles(sheet, told, c, &mut result, &kept)
+}
+
+// Twice, so that no byte of a result is taken for one that was there before.
+fn twice(sheet: &[u8], told: &[u8], c: Case) -> bool {
+    agrees(sheet, told, c, 165) & agrees(sheet, told, c, 90)
+}
+
+// The next case of a file, read into two buffers.
+fn compare_by(file: i32, sheet: &mut [u8], told: &mut [u8]) -> Compared {
+    let mut front = [0u8; 13];
+    if io::read_full(file, &mut front) < 13 {
+        return Compared::NoMore;
+    }
+    let c = case_of(&front);
+    let length = c.length;
+    let count = if c.refused { 0 } else { c.number };
+    if sheet.len() < length {
+        return Compared::Different;
+    }
+    if told.len() < count {
+        return Compared::Different;
+    }
+    let read = io::read_full(file, &mut sheet[..length]);
+    let answered = io::read_full(file, &mut told[..count]);
+    if (read != length) | (answered != count) {
+        return Compared::Different;
+    }
+    if twice(&sheet[..length], &told[..count], c) {
+        Compared::Alike
+    } else {
+        Compared::Different
+    }
+}
+
+// The next case of a file.
+fn compare(file: i32) -> Compared {
+    let mut sheet = io::large_buffer();
+    let mut told = [0u8; 2000];
+    compare_by(file, &mut sheet, &mut told)
+}
+
+// How many cases of a file agree, and whether those were all.
+struct Tally {
+    count: u64,
+    all: bool,
+}
+
+fn tally_of(file: i32) -> Tally {
+    let mut n: u64 = 0;
+    while n < 10000 {
+        let seen = compare(file);
+        match seen {
+            Compared::Alike => n += 1,
+            Compared::Different => return Tally {
+                count: n,
+                all: false,
+            },
+            Compared::NoMore => return Tally {
+                count: n,
+                all: true,
+            },
+        }
+    }
+    Tally {
+        count: n,
+        all: false,
+    }
+}
+
+fn print(text: &[u8]) {
+    io::write_all(STDOUT_FILENO, text);
+}
+
+// The cases of one kind: the kind and their count, or the number of the first that differs.
+fn kind(name: &[u8]) {
+    let file = os::open_read(name);
+    if file < 0 {
+        os::fail(name);
+        return;
+    }
+    let seen = tally_of(file);
+    libc::close(file);
+    print(name);
+    if !seen.all {
+        print(b" DIFFERS at case");
+    }
+    print(b" ");
+    io::print_decimal(STDOUT_FILENO, seen.count);
+    print(b"\n");
+}
+
+fn main() {
+    kind(b"checked_months");
+    kind(b"slips");
+    kind(b"refusal_1");
+    kind(b"refusal_2");
+    kind(b"refusal_3");
+    kind(b"refusal_4");
+    kind(b"refusal_5");
+    kind(b"refusal_6");
+    kind(b"refusal_7");
+    kind(b"refusal_8");
+    kind(b"refusal_9");
+    kind(b"refusal_10");
+    kind(b"refusal_11");
+    kind(b"refusal_12");
+    kind(b"several_rules");
+    kind(b"bands_of_k1");
+    kind(b"bands_of_consumers");
+    kind(b"ties");
+    kind(b"zero_counts");
+    kind(b"months");
+    kind(b"ceilings");
+    kind(b"cut");
+    kind(b"credits");
+    kind(b"largest");
+    kind(b"damaged");
+    kind(b"buffers");
+}
