@@ -153,15 +153,24 @@ fn kind(name: &[u8]) {
     print(b"\n");
 }
 
-fn main() {
+// Document 01's own months, and the slips.
+fn papers() {
     kind(b"checked_months");
     kind(b"slips");
+}
+
+// The refusals.
+fn first_refusals() {
     kind(b"refusal_1");
     kind(b"refusal_2");
     kind(b"refusal_3");
     kind(b"refusal_4");
     kind(b"refusal_5");
     kind(b"refusal_6");
+}
+
+// More refusals, and sheets that break several rules.
+fn last_refusals() {
     kind(b"refusal_7");
     kind(b"refusal_8");
     kind(b"refusal_9");
@@ -169,15 +178,31 @@ fn main() {
     kind(b"refusal_11");
     kind(b"refusal_12");
     kind(b"several_rules");
+}
+
+// Settled sheets: bands, halves, counts, months.
+fn settled() {
     kind(b"bands_of_k1");
     kind(b"bands_of_consumers");
     kind(b"ties");
     kind(b"zero_counts");
     kind(b"months");
+}
+
+// Settled sheets at their limits, damaged sheets, buffers.
+fn limits() {
     kind(b"ceilings");
     kind(b"cut");
     kind(b"credits");
     kind(b"largest");
     kind(b"damaged");
     kind(b"buffers");
+}
+
+fn main() {
+    papers();
+    first_refusals();
+    last_refusals();
+    settled();
+    limits();
 }
