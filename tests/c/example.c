@@ -3,26 +3,10 @@
 #include <string.h>
 
 #include "capacity.h"
+#include "example.h"
 
 /* What stands in the buffer before a call. */
 #define UNTOUCHED 0xA5
-
-/* One consumer: contract volume 100.0, peak 126.0, no mining days, z 1.0, price 100,000 tiyn; 30 days. */
-static const uint8_t sheet[29] = {
-    0, 0, 0, 29, 1, 30, 1, 0, 0, 0, 0, 0, 0, 1,
-    0, 0, 3, 232, 0, 0, 4, 236, 0, 0, 10, 0, 1, 134, 160,
-};
-
-static const uint8_t expected[46] = {
-    0, 0, 0, 46, 1,              /* length, version */
-    0, 0, 0, 0,                  /* credit */
-    0, 0, 0, 210,                /* p */
-    15,                          /* n */
-    0, 0, 0, 0, 0, 0, 4, 216,    /* actual volume 124.0 */
-    0, 0, 0, 0, 0, 189, 53, 128, /* charge 12,400,000 tiyn */
-    0, 0, 0, 0, 0, 0, 0, 0,      /* total paid */
-    0, 0, 0, 0, 0, 189, 53, 128, /* total charged */
-};
 
 static int wrong;
 
@@ -71,11 +55,21 @@ static void check_too_short(void)
         expect_byte("buffer of 45 bytes", buffer, i, UNTOUCHED);
 }
 
+/* Buffers of no bytes: their pointers lead to no byte that may be read or written. */
+static void check_no_bytes(void)
+{
+    uint8_t buffer[1] = {UNTOUCHED};
+    expect_answer("sheet of no bytes", capacity_settle(sheet + sizeof sheet, 0, buffer, sizeof buffer), -1);
+    expect_answer("buffer of no bytes", capacity_settle(sheet, sizeof sheet, buffer, 0), -7);
+    expect_byte("buffer of no bytes", buffer, 0, UNTOUCHED);
+}
+
 int main(void)
 {
     check_accepted();
     check_exact_room();
     check_too_short();
+    check_no_bytes();
     if (wrong)
         return 1;
     puts("C example: ok");

@@ -1,11 +1,73 @@
 #!/bin/sh
-# Builds the C example against the proved archive and runs it. First: rt staticlib settlement.
+# Builds the C programs against the proved archive, runs them, and reads off what the archive exports, needs and uses.
+# A line for each; status 1 where one fails. First: rt staticlib settlement. CC and CXX name other compilers.
 set -eu
 cd "$(dirname "$0")/../.."
 archive=target/staticlib/libsettlement.a
+out=target/c
+CC=${CC:-cc}
+CXX=${CXX:-c++}
 if [ ! -f "$archive" ]; then
     echo "tests/c/run.sh: no $archive; make it with: rt staticlib settlement" >&2
     exit 2
 fi
-cc -std=c99 -Wall -Wextra -Werror -Iinclude -o target/c_example tests/c/example.c "$archive"
-target/c_example
+mkdir -p "$out"
+
+fail() {
+    echo "tests/c/run.sh: $1" >&2
+    exit 1
+}
+
+strict() {
+    "$@" -pedantic -Wall -Wextra -Werror -Iinclude
+}
+
+# The header alone, and the example.
+for std in c99 c11 c17; do
+    echo '#include "capacity.h"' | strict "$CC" -std=$std -fsyntax-only -x c - || fail "the header is no $std"
+done
+strict "$CC" -std=c99 -o "$out/example" tests/c/example.c "$archive" || fail "the example does not build"
+"$out/example" || fail "the example fails"
+
+# The same from C++.
+if command -v "$CXX" >/dev/null 2>&1; then
+    strict "$CXX" -std=c++11 -x c++ -o "$out/example_cpp" tests/c/example.c -x none "$archive" || fail "the example does not build as C++"
+    "$out/example_cpp" >/dev/null || fail "the example fails as C++"
+    echo "C++ example: ok"
+else
+    echo "C++ example: left out, there is no $CXX"
+fi
+
+# Without a C library.
+strict "$CC" -std=c99 -ffreestanding -fno-stack-protector -nostdlib -static -o "$out/bare" tests/c/bare.c "$archive" ||
+    fail "the program without a C library does not build"
+"$out/bare" || fail "the program without a C library fails"
+echo "program without a C library: ok"
+
+# The archive: exports what the header declares, needs nothing that a compiler without a C library does not, has no variable.
+exported=$(nm -g --defined-only "$archive" | awk 'NF == 3 { print $3 }' | paste -s -d ' ' -)
+needed=$(nm -u "$archive" | awk '$1 == "U" { print $2 }' | paste -s -d ' ' -)
+code=$(size "$archive" | awk 'NR == 2 { print $1 }')
+variables=$(size "$archive" | awk 'NR == 2 { print $2 + $3 }')
+for name in $exported; do
+    grep -q "[ *]$name(" include/capacity.h || fail "the archive exports $name, which the header does not declare"
+done
+for name in $needed; do
+    case $name in memcpy | memmove | memset | memcmp) ;; *) fail "the archive needs $name" ;; esac
+done
+[ "$variables" -eq 0 ] || fail "the archive has $variables bytes of variables"
+echo "archive: exports $exported; needs ${needed:-nothing}; $code bytes of code, no variables"
+
+# The stack: what the stored cases use, and every function's return address, pushes and locals added up.
+strict "$CC" -std=c99 -O1 -Wl,-z,now -o "$out/stack" tests/c/stack.c "$archive" || fail "stack.c does not build"
+measured=$("$out/stack" crates/vectors/data/*) || fail "a stored case comes out otherwise"
+set -- $measured
+listing=$out/listing
+objdump -d --no-show-raw-insn "$archive" >"$listing"
+words=$(grep -c -E '^[0-9a-f]+ <|[[:space:]]push[[:space:]]' "$listing")
+frames=$((8 * words))
+for locals in $(sed -n 's/.*sub  *\$\(0x[0-9a-f]*\),%rsp$/\1/p' "$listing"); do
+    frames=$((frames + locals))
+done
+[ "$3" -le "$frames" ] || fail "$3 bytes of stack used, $frames seen in the code"
+echo "stack: $1 stored cases, sheets to $2 bytes, use at most $3 bytes; all frames together have $frames"
