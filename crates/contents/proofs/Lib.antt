@@ -1,1 +1,1 @@
-pub mod HighHours
+pub mod Whole

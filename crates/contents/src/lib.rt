@@ -1,12 +1,8 @@
 // Numbers 8 to 12: the figures of producers, rows and consumers. Each record is read once.
 ghost use mathlib.Core.Path.{_≡_};
-ghost use mathlib.Core.Bool.{_||_};
-ghost use Prim.Native.Nat.{_≤_};
-ghost use Rattle.rules.specs.Month.{hours};
-ghost use Rattle.rules.specs.Sheet.{producerAt, hourAt, producerOf, monthUnder};
-ghost use Rattle.rules.specs.Range.{any};
-ghost use Rattle.rules.specs.Refusals.{badShare, highHour, highProducer, figureTests, firstOf};
-ghost use Rattle.contents.specs.Contents.{producerTests, rowTests, consumerTests, highAt};
+ghost use Rattle.rules.specs.Sheet.{monthUnder};
+ghost use Rattle.rules.specs.Refusals.{badShare, firstOf};
+ghost use Rattle.contents.specs.Contents.{producerTests, rowTests, consumerTests, highOwn, figureTestsWith};
 use fields::half;
 use fields::word;
 use limits::above_one;
@@ -18,7 +14,6 @@ use limits::too_high;
 use rules::Header;
 use sheet::consumer;
 use sheet::first;
-use sheet::hours_at;
 use sheet::producer_at;
 use sheet::row;
 
@@ -55,36 +50,12 @@ fn bad_share(s: &[u8], h: Header, p: u8) -> bool
     (hours < half(s, at + 12)) | ((hours < half(s, at + 14)) | ((hours < half(s, at + 16)) | given))
 }
 
-// 9, of the hour at a place.
-fn high_hour(s: &[u8], at: usize) -> bool
-    requires { ⌜ at ≤ 4000000000 ⌝ }
-    ensures { λ r. ⌜ r ≡ highAt (now (s .entry)) at ⌝ }
-{
-    too_high(word(s, at)) | (too_high(word(s, at + 4)) | too_high(word(s, at + 8)))
-}
-
-// 9, of producer p's hours.
-fn high_hours(s: &[u8], h: Header, p: u8) -> bool
-    ensures { λ r. ⌜ r ≡ any (highHour (monthUnder h (now (s .entry)) .producer p)) (hours h) ⌝ }
-{
-    let at = hours_at(h, p);
-    let n = 24 * (h.days as usize);
-    let mut found = false;
-    let mut i = 0;
-    while i < n {
-        found = found | high_hour(s, at + 12 * i);
-        i += 1;
-    }
-    found
-}
-
-// 9, of producer p.
+// 9, of producer p, but for its hours.
 fn high_producer(s: &[u8], h: Header, p: u8) -> bool
-    ensures { λ r. ⌜ r ≡ highProducer h (monthUnder h (now (s .entry)) .producer p) ⌝ }
+    ensures { λ r. ⌜ r ≡ highOwn (monthUnder h (now (s .entry)) .producer p) ⌝ }
 {
     let at = producer_at(h, p);
-    let own = too_high(word(s, at + 8)) | high_hours(s, h, p);
-    too_high(word(s, at)) | (too_high(word(s, at + 4)) | own)
+    too_high(word(s, at)) | (too_high(word(s, at + 4)) | too_high(word(s, at + 8)))
 }
 
 fn producer_tests(s: &[u8], h: Header) -> ProducerTests
@@ -139,9 +110,10 @@ fn consumer_tests(s: &[u8], h: Header) -> ConsumerTests
     ConsumerTests { high, dear, factor }
 }
 
-// The first of the numbers 8 to 12 that applies to the figures that a header puts into a sheet, 0 where none does.
-pub fn figure_refusal(s: &[u8], h: Header) -> u8
-    ensures { λ r. ⌜ r ≡ firstOf (figureTests (monthUnder h (now (s .entry)))) ⌝ }
+// The first of the numbers 8 to 12 that applies to the figures that a header puts into a sheet, 0 where none does. Whether number 9 applies to
+// an hour is found by whoever passes over the hours.
+pub fn figure_refusal(s: &[u8], h: Header, hours: bool) -> u8
+    ensures { λ r. ⌜ r ≡ firstOf (figureTestsWith (monthUnder h (now (s .entry))) hours) ⌝ }
 {
     let p = producer_tests(s, h);
     let r = row_tests(s, h);
@@ -149,6 +121,6 @@ pub fn figure_refusal(s: &[u8], h: Header) -> u8
     let twelve = first(12, c.factor, 0);
     let eleven = first(11, r.dear | c.dear, twelve);
     let ten = first(10, r.reference, eleven);
-    let nine = first(9, p.high | (r.high | c.high), ten);
+    let nine = first(9, (p.high | hours) | (r.high | c.high), ten);
     first(8, p.share, nine)
 }

@@ -7,8 +7,8 @@ use native.Mathlib.Nat.{add-suc, mul-assoc, add-assoc, add-zero, zero-add, pow-s
 use native.Mathlib.Numerals.{add-one}
 use native.Mathlib.Omega.{arith}
 use lib.Dec.{lit<}
-use lib.ListN.{length, getD, drop, length-append, List·getD-append, List·getD-eq-default}
-use lib.Seq.{getD-at, getD-drop, getD-append-add}
+use lib.ListN.{length, getD, take, drop, length-append, List·getD-append, List·getD-eq-default}
+use lib.Seq.{getD-at, getD-take, getD-drop, getD-append-add}
 use Rattle.rules.specs.Fields.{bigEndian, bytesOf, Field, laid, widthOf, joined}
 
 pub length-bytesOf : (w v : ℕ) → length (bytesOf w v) ≡ w
@@ -49,6 +49,12 @@ read-drop zero n s at = refl
 read-drop (suc w) n s at = simp (read-drop w n s at, getD-drop, add-assoc)
 
 -- A figure that fits its width is read again.
+-- Read in the n bytes from a place on.
+pub read-part : (w n at k : ℕ) (s : List ℕ) → k + w ≤ n → bigEndian w (take n (drop at s)) k ≡ bigEndian w s (at + k)
+read-part w n at k s fits =
+    same-bytes w (take n (drop at s)) s k (at + k)
+    (λ i l. getD-take n (drop at s) (k + i) 0 (omega arith) ∙ getD-drop at s (k + i) 0 ∙ ap (λ (x : ℕ). getD s x 0) (sym (add-assoc at k i)))
+
 read-written : (w v : ℕ) (t : List ℕ) → v < 256 ^ w → bigEndian w (bytesOf w v ++ t) 0 ≡ v
 unfolding bigEndian bytesOf
 read-written zero v t h = omega arith

@@ -9,3 +9,4 @@ pub mod Fields
 pub mod Sheet
 pub mod Refusals
 pub mod Figures
+pub mod ControlHours

@@ -1,7 +1,7 @@
 -- The sheet: where each figure of a month stands. No other definition knows a place in the sheet. [Units and the sheet, throughout]
 use Prim.Native.Nat.{ℕ, _+_, _*_}
 use mathlib.Core.List.{List}
-use Rattle.rules.specs.Month.{Header, Producer, Row, Consumer, Month}
+use Rattle.rules.specs.Month.{Header, Hour, Producer, Row, Consumer, Month}
 use Rattle.rules.specs.Fields.{bigEndian}
 
 -- The header's width.
@@ -65,6 +65,10 @@ consumerAt h c = rowAt h (h .rows) + consumerWidth * c
 unfoldable pub sheetLength : Header → ℕ
 sheetLength h = consumerAt h (h .consumers)
 
+-- The hour whose powers begin at a place.
+abbrev pub hourOf : List ℕ → ℕ → Hour
+hourOf s at = record { working = bigEndian 4 s at; possible = bigEndian 4 s (at + 4); outside = bigEndian 4 s (at + 8) }
+
 -- The producer whose figures begin at a place, with the place of each of its hours.
 abbrev pub producerOf : List ℕ → ℕ → (ℕ → ℕ) → Producer
 producerOf s at hour =
@@ -81,9 +85,9 @@ producerOf s at hour =
       k8 = bigEndian 4 s (at + 30);
       k9 = bigEndian 4 s (at + 34);
       k10 = bigEndian 4 s (at + 38);
-      working = λ i. bigEndian 4 s (hour i);
-      possible = λ i. bigEndian 4 s (hour i + 4);
-      outsideUse = λ i. bigEndian 4 s (hour i + 8);
+      working = λ i. hourOf s (hour i) .working;
+      possible = λ i. hourOf s (hour i) .possible;
+      outsideUse = λ i. hourOf s (hour i) .outside;
     }
 
 -- The row whose figures begin at a place.

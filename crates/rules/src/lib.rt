@@ -12,6 +12,13 @@ pub struct Header {
     pub consumers: u8,
 }
 
+// An hour of a producer: working, possible and outside-use power, in tenths of a megawatt.
+pub struct Hour {
+    pub working: u32,
+    pub possible: u32,
+    pub outside: u32,
+}
+
 // A contract row: the producer, the consumer (255 for the single buyer), the volume in tenths of a megawatt, the price in tiyn per
 // megawatt and month.
 pub struct Row {

@@ -1,16 +1,17 @@
 // The settlement of one month: every sheet and every result buffer is answered.
 ghost use mathlib.Core.Path.{_≡_};
 ghost use lib.ListN.{length};
-ghost use Rattle.rules.specs.Refusals.{refusal};
 ghost use Prim.Native.Nat.{_+_};
 ghost use Rattle.rules.specs.Outcome.{outcome, bufferAfter, hoursStretch, within};
 ghost use Rattle.settlement.specs.Said.{said, inC};
+ghost use Rattle.settlement.specs.Early.{earlyRefusal};
 use contents::figure_refusal;
 use sheet::form_refusal;
 use sheet::header;
 use sheet::producer_hours;
 use sheet::result_length;
 use sheet::room_refusal;
+use terms::all_terms;
 
 mod consumers;
 mod result;
@@ -22,20 +23,15 @@ pub enum Answer {
     Written(usize),
 }
 
-// The first number that applies to a sheet with a result buffer of so many bytes, 0 where none does.
-fn refusal_of(s: &[u8], room: usize) -> u8
-    ensures { λ r. ⌜ r ≡ refusal (now (s .entry)) room ⌝ }
+// The first of the numbers 1 to 7 that applies to a sheet with a result buffer of so many bytes, 0 where none does.
+fn early_refusal(s: &[u8], room: usize) -> u8
+    ensures { λ r. ⌜ r ≡ earlyRefusal (now (s .entry)) room ⌝ }
 {
     let form = form_refusal(s);
     if form != 0 {
         return form;
     }
-    let h = header(s);
-    let seven = room_refusal(h, room);
-    if seven != 0 {
-        return seven;
-    }
-    figure_refusal(s, h)
+    room_refusal(header(s), room)
 }
 
 // Settles a sheet into a result buffer. A refusal changes no byte of the buffer; bytes past a result keep what they had.
@@ -43,12 +39,18 @@ pub fn settle(sheet: &[u8], result: &mut [u8]) -> Answer
     ensures { λ r. ⌜ said r ≡ outcome (now (sheet .entry)) (length (now (result .entry))) ⌝ }
     ensures buffer { λ r. ⌜ now (result .exit) ≡ bufferAfter (now (sheet .entry)) (now (result .entry)) ⌝ }
 {
-    let number = refusal_of(sheet, result.len());
+    let early = early_refusal(sheet, result.len());
+    if early != 0 {
+        return Answer::Refused(early);
+    }
+    let h = header(sheet);
+    let terms = all_terms(sheet, h);
+    let number = figure_refusal(sheet, h, terms.high);
     if number != 0 {
         return Answer::Refused(number);
     }
-    let h = header(sheet);
-    result::write_result(sheet, h, result);
+    let of = terms.of;
+    result::write_result(sheet, h, of, result);
     Answer::Written(result_length(h))
 }
 

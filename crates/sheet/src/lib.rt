@@ -60,7 +60,7 @@ pub(crate) fn consumer_at(h: Header, c: u8) -> usize
 }
 
 // The length that the header asks of the sheet.
-pub(crate) fn sheet_length(h: Header) -> usize
+pub fn sheet_length(h: Header) -> usize
     ensures { λ r. ⌜ r ≡ sheetLength h ⌝ }
 {
     consumer_at(h, h.consumers)

@@ -1,15 +1,17 @@
 // What a producer's rows are settled by: its excess and its coefficients, from any bytes under any header.
 ghost use mathlib.Core.Path.{_≡_};
-ghost use Prim.Native.Nat.{ℕ, _-_, _*_, _<_, _≤_};
+ghost use Prim.Native.Nat.{ℕ, _+_, _-_, _*_, _<_, _≤_};
 ghost use lib.ListN.{length, getD};
+ghost use Rattle.rules.specs.Range.{any};
 ghost use Rattle.rules.specs.Month.{hours};
-ghost use Rattle.rules.specs.Sheet.{monthUnder, producerAt};
+ghost use Rattle.rules.specs.Refusals.{highHour};
+ghost use Rattle.rules.specs.Sheet.{sheetLength, producerAt, hourAt, hoursWidth, monthUnder};
 ghost use Rattle.rules.specs.ControlHours.{controlCount, average};
 ghost use Rattle.rules.specs.Bands.{bandOf, thousandths};
 ghost use Rattle.rules.specs.Cut.{summedCapacity};
 ghost use Rattle.rules.specs.Coefficients.{share, lessPenalty, coefficients};
 ghost use Rattle.producer.specs.Sums.{volumesOf, sumsOf};
-ghost use Rattle.terms.specs.Terms.{termsAt, termsOf, noTerms, withTerms};
+ghost use Rattle.terms.specs.Terms.{termsAt, termsOf, noTerms, withTerms, highHours};
 use coefficients::bids;
 use coefficients::overuse;
 use coefficients::penalty;
@@ -26,6 +28,7 @@ use producer::hour_sums;
 use producer::row_volumes;
 use rules::Header;
 use sheet::producer_at;
+use sheet::sheet_length;
 
 // What is left to cut of a producer's rows, in tenths of a megawatt, and k1 to k10, in millionths.
 pub struct Terms {
@@ -33,8 +36,17 @@ pub struct Terms {
     pub ks: [u64; 10],
 }
 
-// The terms of six producers, as many as a sheet may have.
-pub type AllTerms = [Terms; 6];
+// The terms of six producers, as many as a sheet may have, and whether a power in their hours is above the ceiling (number 9).
+pub struct AllTerms {
+    pub of: [Terms; 6],
+    pub high: bool,
+}
+
+// The same of one producer.
+struct Found {
+    terms: Terms,
+    high: bool,
+}
 
 // 1 - n × D / T.
 fn less_penalty(support: u64, penalty: u64) -> u64
@@ -96,10 +108,11 @@ fn ks_of(s: &[u8], h: Header, p: u8, at: usize, v: Volumes, sums: Sums, count: u
     ]
 }
 
-// Producer p's excess and coefficients, before the first row.
-fn terms_of(s: &[u8], h: Header, p: u8, count: u64) -> Terms
-    requires { ⌜ (h .days ≤ 31) × (count ≡ controlCount h) ⌝ }
-    ensures { λ r. ⌜ r ≡ termsAt (monthUnder h (now (s .entry))) p 0 ⌝ }
+// Producer p's excess and coefficients, before the first row, and number 9 of its hours.
+fn found_of(s: &[u8], h: Header, p: u8, count: u64) -> Found
+    requires { ⌜ (h .days ≤ 31) × (hourAt h p 0 + hoursWidth h ≤ length (now s)) × (count ≡ controlCount h) ⌝ }
+    ensures { λ r. ⌜ (r .terms ≡ termsAt (monthUnder h (now (s .entry))) p 0)
+        × (r .high ≡ any (highHour (monthUnder h (now (s .entry)) .producer p)) (hours h)) ⌝ }
 {
     let at = producer_at(h, p);
     let v = row_volumes(s, h, p);
@@ -108,14 +121,19 @@ fn terms_of(s: &[u8], h: Header, p: u8, count: u64) -> Terms
     let excess = less(own, word(s, at) as u64);
     let sums = hour_sums(s, h, p, summed);
     let ks = ks_of(s, h, p, at, v, sums, count);
-    Terms { excess, ks }
+    let terms = Terms { excess, ks };
+    Found {
+        terms,
+        high: sums.high,
+    }
 }
 
-// How many producers have terms: at most six, and none in a month of more than 31 days.
-fn with_terms(h: Header) -> u8
-    ensures { λ r. ⌜ (r ≡ withTerms h) × (r ≤ 6) × (0 < r → h .days ≤ 31) ⌝ }
+// How many producers of a sheet have terms: at most six, and none in a month of more than 31 days or in a sheet that ends too soon.
+fn with_terms(s: &[u8], h: Header) -> u8
+    ensures { λ r. ⌜ (r ≡ withTerms h (now (s .entry))) × (r ≤ 6)
+        × (0 < r → (h .days ≤ 31) × (r ≤ h .producers) × (sheetLength h ≤ length (now (s .entry)))) ⌝ }
 {
-    if 31 < h.days {
+    if (31 < h.days) | (s.len() < sheet_length(h)) {
         0
     } else if h.producers < 6 {
         h.producers
@@ -124,23 +142,27 @@ fn with_terms(h: Header) -> u8
     }
 }
 
-// The excess and the coefficients of every producer, before the first row.
+// The excess and the coefficients of every producer, before the first row, and number 9 of their hours.
 pub fn all_terms(s: &[u8], h: Header) -> AllTerms
-    ensures { λ r. ⌜ (length r ≡ 6) × ((p : ℕ) → p < 6 → getD r p noTerms ≡ termsOf (monthUnder h (now (s .entry))) p) ⌝ }
+    ensures { λ r. ⌜ (length (r .of) ≡ 6) × ((p : ℕ) → p < 6 → getD (r .of) p noTerms ≡ termsOf h (now (s .entry)) p) ⌝ }
+    ensures high { λ r. ⌜ r .high ≡ highHours h (now (s .entry)) ⌝ }
 {
     let none = Terms {
         excess: 0,
         ks: [0; 10],
     };
-    let mut terms = [none; 6];
+    let mut of = [none; 6];
+    let mut high = false;
     let count = control_count(h);
-    let n = with_terms(h);
+    let n = with_terms(s, h);
     let mut p: u8 = 0;
     while p < n {
         let i = p as usize;
-        let t = terms_of(s, h, p, count);
-        terms[i] = t;
+        let found = found_of(s, h, p, count);
+        let t = found.terms;
+        of[i] = t;
+        high = high | found.high;
         p += 1;
     }
-    terms
+    AllTerms { of, high }
 }

@@ -1,4 +1,5 @@
-use Rattle.rules.specs.Refusals.{oneOf, firstOf, figureTests}
+use Rattle.rules.specs.Refusals.{oneOf, firstOf}
+use Rattle.contents.specs.Contents.{figureTestsWith}
 use mathlib.Core.Bool.{or-false}
 use borrow.Author.Needs.{needs}
 use Rattle.contents.proofs.figure_refusal.Statement.{statement}
@@ -29,7 +30,7 @@ first-requires-5 : tie.Need-first-requires-5
 first-requires-5 c κs = search needs
 
 returns : tie.Need-returns
-unfolding firstOf figureTests oneOf
+unfolding firstOf figureTestsWith oneOf
 returns c =
     rw (
       c .first5 .ensures,

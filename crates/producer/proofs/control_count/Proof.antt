@@ -1,47 +1,40 @@
-use native.Mathlib.Omega.{arith}
 use borrow.Author.Needs.{needs}
-use mathlib.Core.Path.{_≡_, sym}
+use native.Mathlib.Omega.{arith}
+use mathlib.Core.Path.{_≡_, sym, _∙_}
 use Prim.Native.Nat.{_-_, _*_, _≤_, zero-le}
+use Rattle.rules.specs.Range.{sum, when}
+use Rattle.rules.specs.ControlHours.{controlDay}
 use Rattle.laws.proofs.Range.{sum-none, sum-fold, sum-done}
-use Rattle.rules.specs.Range.{sum}
-use Rattle.rules.specs.ControlHours.{counted, once, controlSum, controlCount}
+use Rattle.laws.proofs.ControlHours.{count-by-day}
 use Rattle.producer.proofs.control_count.Statement.{statement}
 use Rattle.producer.proofs.control_count.Tie as tie
 
 abbrev Inv-loop : tie.InvT-loop
-Inv-loop h n found₀ i₀ found i = (found ≡ sum (counted h once) i) × (found ≤ 4294967295 * i) × (i ≤ n) × (n ≤ 6120)
+Inv-loop h found₀ day₀ found day = (found ≡ sum (λ d. when (controlDay h d) 6) day) × (found ≤ 6 * day) × (day ≤ h .days)
 
 abbrev μ-loop : tie.MeasureT-loop
-μ-loop h n found₀ i₀ found i = n - i
-
-cast-n : tie.Need-cast-n Inv-loop μ-loop
-cast-n c = search needs
-
-mul-n : tie.Need-mul-n Inv-loop μ-loop
-mul-n c = omega arith
+μ-loop h found₀ day₀ found day = h .days - day
 
 loop-holds : tie.Need-loop-holds Inv-loop μ-loop
-loop-holds c = (sym (sum-none _), zero-le, zero-le, omega arith)
+loop-holds c = (sym (sum-none _), zero-le, zero-le)
 
-counted-of-requires : tie.Need-counted-of-requires Inv-loop μ-loop
-counted-of-requires c κs = omega arith
+six-on-requires : tie.Need-six-on-requires Inv-loop μ-loop
+six-on-requires c κs = search needs
 
 add-found : tie.Need-add-found Inv-loop μ-loop
-add-found c = omega arith
+add-found c = omega (arith, c .six-on .ensures .1)
 
-add-i : tie.Need-add-i Inv-loop μ-loop
-add-i c = omega arith
+add-day : tie.Need-add-day Inv-loop μ-loop
+add-day c = omega arith
 
 loop-less : tie.Need-loop-less Inv-loop μ-loop
 loop-less c = omega arith
 
 loop-again : tie.Need-loop-again Inv-loop μ-loop
-unfolding counted
-loop-again c = (sum-fold _ _ (c .before .before .loop .inv .0) (c .counted-of .ensures .0), omega arith, omega arith, omega arith)
+loop-again c = (sum-fold _ _ (c .before .before .before .loop .inv .0) (c .six-on .ensures .0), omega (arith, c .six-on .ensures .1), omega arith)
 
 returns : tie.Need-returns Inv-loop μ-loop
-unfolding controlCount controlSum
-returns c = sum-done _ (omega arith) (omega arith) (c .before .loop .inv .0)
+returns c = sum-done _ {n = c .before .before .before .args .h .days} (omega arith) (omega arith) (c .before .before .loop .inv .0) ∙ sym (count-by-day (c .before .before .before .args .h))
 
 pub control-count-spec : {M : Type 1} → statement M
 control-count-spec =
@@ -49,12 +42,10 @@ control-count-spec =
     (tie.spec
     Inv-loop
     μ-loop
-    cast-n
-    mul-n
     loop-holds
-    counted-of-requires
+    six-on-requires
     add-found
-    add-i
+    add-day
     loop-less
     loop-again
     returns)

@@ -1,20 +1,28 @@
-use native.Mathlib.Omega.{arith}
 use borrow.Author.Needs.{needs}
+use native.Mathlib.Omega.{arith}
 use mathlib.Core.Path.{_≡_}
 use Prim.Native.Nat.{_-_, _≤_, _<_, zero-le}
-use Rattle.rules.specs.Sheet.{monthUnder}
+use native.Mathlib.Nat.{le-trans}
+use lib.ListN.{length}
+use Rattle.rules.specs.Sheet.{sheetLength, monthUnder}
 use Rattle.rules.specs.ControlHours.{controlCount}
-use Rattle.terms.specs.Terms.{withTerms, termsOf}
+use Rattle.laws.proofs.Sheet.{hours-inside}
+use Rattle.terms.specs.Terms.{withTerms, termsOf, highHours}
 use Rattle.terms.proofs.Cuts.{Filled, filled-none, filled-more}
 use Rattle.terms.proofs.all_terms.Statement.{statement}
 use Rattle.terms.proofs.all_terms.Tie as tie
 
 abbrev Inv-loop : tie.InvT-loop
-Inv-loop s h terms₀ count n p₀ terms p =
-    Filled (monthUnder h s) p terms × (p ≤ n) × (count ≡ controlCount h) × (n ≡ withTerms h) × (n ≤ 6) × (0 < n → h .days ≤ 31)
+Inv-loop s h of₀ high₀ count n p₀ of high p =
+    Filled (monthUnder h s) p of high
+    × (p ≤ n)
+    × (count ≡ controlCount h)
+    × (n ≡ withTerms h s)
+    × (n ≤ 6)
+    × (0 < n → (h .days ≤ 31) × (n ≤ h .producers) × (sheetLength h ≤ length s))
 
 abbrev μ-loop : tie.MeasureT-loop
-μ-loop s h terms₀ count n p₀ terms p = n - p
+μ-loop s h of₀ high₀ count n p₀ of high p = n - p
 
 control-count-requires : tie.Need-control-count-requires Inv-loop μ-loop
 control-count-requires c κs = search needs
@@ -30,16 +38,17 @@ loop-holds c =
 cast-i : tie.Need-cast-i Inv-loop μ-loop
 cast-i c = search needs
 
-terms-of-requires : tie.Need-terms-of-requires Inv-loop μ-loop
-terms-of-requires c κs =
+found-of-requires : tie.Need-found-of-requires Inv-loop μ-loop
+found-of-requires c κs =
     let inv = c .before .loop .inv in
-    (inv .5 (omega arith), inv .2)
+    let some = inv .5 (omega arith) in
+    (some .0, le-trans (hours-inside (c .before .before .before .before .before .args .h) _ (omega (arith, some .1))) (some .2), inv .2)
 
-mul-terms : tie.Need-mul-terms Inv-loop μ-loop
-mul-terms c = search needs
+mul-of : tie.Need-mul-of Inv-loop μ-loop
+mul-of c = search needs
 
-array-set-from-terms : tie.Need-array-set-from-terms Inv-loop μ-loop
-array-set-from-terms c = omega arith
+array-set-from-of : tie.Need-array-set-from-of Inv-loop μ-loop
+array-set-from-of c = omega arith
 
 add-p : tie.Need-add-p Inv-loop μ-loop
 add-p c = omega arith
@@ -49,16 +58,17 @@ loop-less c = omega arith
 
 loop-again : tie.Need-loop-again Inv-loop μ-loop
 loop-again c =
-    let inv = c .before .before .loop .inv in
-    (filled-more _ _ _ _ (inv .0) (omega arith) (c .terms-of .ensures), omega arith, inv .2, inv .3, inv .4, inv .5)
+    let inv = c .before .before .before .before .loop .inv in
+    let f = c .before .before .found-of .ensures in
+    (filled-more _ _ _ _ (inv .0) (omega arith) (f .0) (f .1), omega arith, inv .2, inv .3, inv .4, inv .5)
 
 returns : tie.Need-returns Inv-loop μ-loop
-unfolding termsOf
+unfolding termsOf highHours
 returns c =
     let inv = c .before .loop .inv in
-    let end : c .before .loop .p ≡ withTerms (c .before .before .before .before .before .args .h) = omega arith in
+    let end : c .before .loop .p ≡ withTerms (c .before .before .before .before .before .args .h) (c .before .before .before .before .before .args .s .now) = omega arith in
     let all = rw end at (inv .0) in
-    (all .six, all .each)
+    ((all .six, all .each), all .found)
 
 pub all-terms-spec : {M : Type 1} → statement M
 all-terms-spec =
@@ -70,9 +80,9 @@ all-terms-spec =
     with-terms-requires
     loop-holds
     cast-i
-    terms-of-requires
-    mul-terms
-    array-set-from-terms
+    found-of-requires
+    mul-of
+    array-set-from-of
     add-p
     loop-less
     loop-again

@@ -3,11 +3,13 @@ use mathlib.Core.Path.{ap, _∙_}
 use Prim.Native.Nat.{ℕ, _+_}
 use Rattle.rules.specs.Fields.{bigEndian}
 use Rattle.rules.specs.Sheet.{monthUnder}
+use Rattle.producer.specs.declared.Sums.{Sums}
 use Rattle.producer.specs.Sums.{sumsOf}
+use Rattle.producer.proofs.Inside.{sums-inside}
 use Rattle.terms.proofs.Cuts.{summed-is, left-first}
 use borrow.Author.Needs.{needs}
-use Rattle.terms.proofs.terms_of.Statement.{statement}
-use Rattle.terms.proofs.terms_of.Tie as tie
+use Rattle.terms.proofs.found_of.Statement.{statement}
+use Rattle.terms.proofs.found_of.Tie as tie
 
 producer-at-requires : tie.Need-producer-at-requires
 producer-at-requires c κs = search needs
@@ -66,8 +68,9 @@ ks-of-requires c κs =
       (
         (v .0, v .1 .0),
         (
-          sums .0 ∙ ap (sumsOf (a .args .h) (m .producer (a .args .p))) (summed-is m (a .args .p) _ _ (v .0) d),
-          (sums .1 .1, rw (a .pre .1) (sums .1 .2), a .pre .1),
+          sums .0 ∙ sums-inside (a .args .h) (a .args .s .now) (a .args .p) _ (a .pre .1)
+              ∙ ap (sumsOf (a .args .h) (m .producer (a .args .p))) (summed-is m (a .args .p) _ _ (v .0) d),
+          (sums .1 .1, rw (a .pre .2) (sums .1 .2), a .pre .2),
         ),
       ),
     )
@@ -79,19 +82,21 @@ returns c =
     let at = c .before .before .before .before .before .before .before .before .before .producer-at .ensures .0 in
     let d = c .before .before .before .before .before .before .word .ensures ∙ ap (λ (x : ℕ). bigEndian 4 (a .args .s .now) (x + 4)) at in
     let own = c .before .before .before .before .before .word2 .ensures ∙ ap (λ (x : ℕ). bigEndian 4 (a .args .s .now) (x + 8)) at in
-    let attested = c .before .before .before .word3 .ensures ∙ ap (λ (x : ℕ). bigEndian 4 (a .args .s .now) x) at in
-    rw (
-      c .before .before .less2 .ensures,
-      c .before .before .before .before .less .ensures,
-      summed-is m (a .args .p) _ _ (c .before .before .before .before .before .before .before .before .row-volumes .ensures .0) d,
-      own,
-      attested,
-      c .ks-of .ensures,
-      left-first,
+    let attested = c .before .before .before .word3 .ensures ∙ ap (λ (x : ℕ). bigEndian 4 (a .args .s .now) x) at in (
+      rw (
+        c .before .before .less2 .ensures,
+        c .before .before .before .before .less .ensures,
+        summed-is m (a .args .p) _ _ (c .before .before .before .before .before .before .before .before .row-volumes .ensures .0) d,
+        own,
+        attested,
+        c .ks-of .ensures,
+        left-first,
+      ),
+      ap (λ (x : Sums). x .high) (c .before .hour-sums .ensures .0 ∙ sums-inside (a .args .h) (a .args .s .now) (a .args .p) _ (a .pre .1)),
     )
 
-pub terms-of-spec : {M : Type 1} → statement M
-terms-of-spec =
+pub found-of-spec : {M : Type 1} → statement M
+found-of-spec =
     tie.close
     (tie.spec
     producer-at-requires
