@@ -7,39 +7,30 @@
 Every figure stands below: capacities and volumes in tenths of a megawatt, prices in tiyn per megawatt and month,
 coefficients in millionths. Nothing is random, so each run writes the same bytes.
 """
-import struct
 import subprocess
 import sys
+from array import array
 from pathlib import Path
 
+sys.dont_write_bytecode = True
+
+from records import ONE, SINGLE_BUYER, Consumer, Month, Producer, Row, Sheet
+
 CRATES = Path(__file__).resolve().parent.parent / "crates"
-ONE = 1000000
-SINGLE_BUYER = 255
 
 
 def sheet(days, weekday, holidays=0, producers=(), rows=(), consumers=()):
-    body = b"".join([*producers, *rows, *consumers])
-    counts = len(producers), len(rows), len(consumers)
-    return struct.pack(">IBBBIBBB", 14 + len(body), 1, days, weekday, holidays, *counts) + body
+    return Sheet(Month(days, weekday, holidays), list(producers), list(rows), list(consumers)).to_bytes()
 
 
 def producer(attested, deductible, own_needs, missing, given, hours):
     """missing: hours without an upward bid, without a downward bid, without a plan; given: k3, k6 to k10."""
-    powers = b"".join(struct.pack(">III", *hour) for hour in hours)
-    return struct.pack(">IIIHHH6I", attested, deductible, own_needs, *missing, *given) + powers
-
-
-def row(producer_number, buyer, volume, price):
-    return struct.pack(">BBII", producer_number, buyer, volume, price)
-
-
-def consumer(contract, peak, supplier_days, grid_days, z, price):
-    return struct.pack(">IIBBBI", contract, peak, supplier_days, grid_days, z, price)
+    return Producer(attested, deductible, own_needs, missing, given, *(array("I", powers) for powers in zip(*hours)))
 
 
 def example():
     """Document 01's example: one consumer."""
-    return sheet(30, 1, consumers=[consumer(1000, 1260, 0, 0, 10, 100000)])
+    return sheet(30, 1, consumers=[Consumer(1000, 1260, 0, 0, 10, 100000)])
 
 
 def month():
@@ -53,21 +44,21 @@ def month():
             producer(800, 20, 15, (0, 0, 0), (987654, ONE, ONE, ONE, 999999, ONE), second),
         ],
         rows=[
-            row(0, SINGLE_BUYER, 900, 61234567),
-            row(0, 0, 400, 58000000),
-            row(1, SINGLE_BUYER, 505, 60000001),
-            row(0, 2, 251, 57500050),
-            row(1, 1, 333, 59999999),
-            row(0, 0, 7, 1),
+            Row(0, SINGLE_BUYER, 900, 61234567),
+            Row(0, 0, 400, 58000000),
+            Row(1, SINGLE_BUYER, 505, 60000001),
+            Row(0, 2, 251, 57500050),
+            Row(1, 1, 333, 59999999),
+            Row(0, 0, 7, 1),
         ],
         consumers=[
-            consumer(1000, 1450, 0, 0, 10, 61000000),
-            consumer(500, 900, 0, 0, 11, 61000000),
-            consumer(777, 1140, 3, 0, 10, 60500025),
-            consumer(200, 282, 0, 5, 10, 199999999),
-            consumer(1, 500, 0, 0, 10, 33),
-            consumer(640, 640, 1, 2, 15, 61000000),
-            consumer(300, 450, 0, 0, 10, 61000000),
+            Consumer(1000, 1450, 0, 0, 10, 61000000),
+            Consumer(500, 900, 0, 0, 11, 61000000),
+            Consumer(777, 1140, 3, 0, 10, 60500025),
+            Consumer(200, 282, 0, 5, 10, 199999999),
+            Consumer(1, 500, 0, 0, 10, 33),
+            Consumer(640, 640, 1, 2, 15, 61000000),
+            Consumer(300, 450, 0, 0, 10, 61000000),
         ],
     )
 
@@ -79,15 +70,15 @@ def zeros():
         28, 1,
         producers=[producer(1000, 0, 0, (0, 0, 0), (0, ONE, ONE, ONE, ONE, ONE), idle)],
         rows=[
-            row(0, SINGLE_BUYER, 0, 0),
-            row(0, 0, 0, 60000000),
-            row(0, SINGLE_BUYER, 500, 60000000),
+            Row(0, SINGLE_BUYER, 0, 0),
+            Row(0, 0, 0, 60000000),
+            Row(0, SINGLE_BUYER, 500, 60000000),
         ],
         consumers=[
-            consumer(0, 0, 0, 0, 10, 0),
-            consumer(0, 0, 0, 0, 10, 60000000),
-            consumer(100, 0, 0, 0, 10, 0),
-            consumer(0, 1, 0, 0, 10, 0),
+            Consumer(0, 0, 0, 0, 10, 0),
+            Consumer(0, 0, 0, 0, 10, 60000000),
+            Consumer(100, 0, 0, 0, 10, 0),
+            Consumer(0, 1, 0, 0, 10, 0),
         ],
     )
 
@@ -98,8 +89,8 @@ def largest():
     return sheet(
         31, 1,
         producers=[producer(100000, 0, 100000, (0, 0, 0), (ONE,) * 6, full)] * 6,
-        rows=[row(j % 6, SINGLE_BUYER, 100000, 200000000) for j in range(32)],
-        consumers=[consumer(0, 100000, 31, 31, 100, 200000000)] * 32,
+        rows=[Row(j % 6, SINGLE_BUYER, 100000, 200000000) for j in range(32)],
+        consumers=[Consumer(0, 100000, 31, 31, 100, 200000000)] * 32,
     )
 
 
@@ -111,8 +102,8 @@ STORED = {
     "header": sheet(28, 1),
     "refused_1": sheet(28, 1)[:13],
     "refused_2": example()[:-1],
-    "refused_9": sheet(28, 1, consumers=[consumer(0, 100001, 0, 0, 10, 0)]),
-    "refused_12": sheet(28, 1, consumers=[consumer(0, 0, 0, 0, 9, 0)]),
+    "refused_9": sheet(28, 1, consumers=[Consumer(0, 100001, 0, 0, 10, 0)]),
+    "refused_12": sheet(28, 1, consumers=[Consumer(0, 0, 0, 0, 9, 0)]),
 }
 
 

@@ -1,0 +1,95 @@
+"""Counting of checks, and running of the commands under test."""
+import importlib.machinery
+import importlib.util
+import io
+import os
+import subprocess
+import sys
+import traceback
+from pathlib import Path
+
+ROOT = Path(__file__).resolve().parents[2]
+SHEET = ROOT / "tools" / "sheet"
+PROGRAM = ROOT / "target" / "bin" / "settle"
+EXAMPLES = ROOT / "examples"
+
+passed = failed = 0
+
+
+def check(holds, name, more=""):
+    """Counts a check; prints it if it fails."""
+    global passed, failed
+    if holds:
+        passed += 1
+    else:
+        failed += 1
+        print(f"FAILED: {name}" + (f"\n{more}" if more else ""))
+    return holds
+
+
+def attempt(test, *given):
+    """A test that breaks down is one that fails."""
+    try:
+        test(*given)
+    except Exception:
+        check(False, test.__name__, traceback.format_exc())
+
+
+def run(*words, stdin=b"", folder=None, path=None):
+    """Runs a command to its end; what it prints comes as bytes."""
+    env = dict(os.environ, PATH=str(path)) if path else None
+    words = [str(word) for word in words]
+    return subprocess.run(words, input=stdin, capture_output=True, cwd=folder, env=env, timeout=60)
+
+
+def load_command():
+    loader = importlib.machinery.SourceFileLoader("sheet_command", str(SHEET))
+    module = importlib.util.module_from_spec(importlib.util.spec_from_loader("sheet_command", loader))
+    loader.exec_module(module)
+    return module
+
+
+COMMAND = load_command()
+
+
+def sheet(*words, stdin=b"", folder=None):
+    """Runs tools/sheet in this process, which saves a start of Python each time; the answer is as run's."""
+    kept = sys.argv, sys.stdin, sys.stdout, sys.stderr, os.getcwd()
+    sys.argv = [str(SHEET), *map(str, words)]
+    sys.stdin, out, err = (io.TextIOWrapper(io.BytesIO(content)) for content in (stdin, b"", b""))
+    sys.stdout, sys.stderr = out, err
+    try:
+        os.chdir(folder or kept[-1])
+        status = COMMAND.main()
+    except SystemExit as end:
+        status = end.code
+    except Exception:
+        traceback.print_exc()
+        status = None
+    finally:
+        sys.argv, sys.stdin, sys.stdout, sys.stderr = kept[:-1]
+        os.chdir(kept[-1])
+    out.flush()
+    err.flush()
+    return subprocess.CompletedProcess(words, status, out.buffer.getvalue(), err.buffer.getvalue())
+
+
+def words_of(done):
+    """What is printed of a command whose check fails."""
+    said = (done.stdout + done.stderr).decode(errors="replace")
+    return f"status {done.returncode}\n{said[:1000]}".rstrip()
+
+
+def files_in(folder):
+    return {path: path.read_bytes() for path in Path(folder).rglob("*") if path.is_file()}
+
+
+def turned_down(name, folder, words, message, status=1, **more):
+    """A command ends with a status and a message, without a traceback, and leaves every file as it was."""
+    before = files_in(folder)
+    done = sheet(*words, folder=folder, **more)
+    said = done.stderr.decode(errors="replace")
+    check(done.returncode == status and message in " ".join(said.split()) and not done.stdout,
+          f"{name}: {message}", words_of(done))
+    check("Traceback" not in said and (status == 2 or said.count("\n") == 1), f"{name}: one line", words_of(done))
+    check(files_in(folder) == before, f"{name}: every file is as it was")

@@ -1,0 +1,116 @@
+"""Sheets of the comparison's drawing: explain against the rival, and the way to text and back."""
+import os
+import tempfile
+from array import array
+from pathlib import Path
+
+import monthtext
+import programs
+import records
+import refusals
+import sheets
+from checks import SHEET, check, files_in, run, sheet, words_of
+
+SEED = 20211022
+DRAWN = 1000
+ROUND_TRIPS = 400   # of the drawn sheets; most get past refusal 6
+BY_COMMAND = 12     # of these go through the commands
+MOST_REPAIRS = 12   # of one sheet
+
+
+def draw():
+    """The sheets of a seed as the program is handed them, with the rival's answers in a buffer that is long enough."""
+    cases = [case._replace(sheet=case.sheet[:refusals.HANDED_OVER], buffer=sheets.LONGEST_BUFFER)
+             for case in sheets.cases(SEED, DRAWN)]
+    with tempfile.TemporaryDirectory() as folder:
+        return cases, programs.rival_answers(cases, folder)
+
+
+def test_explained(cases, answers):
+    """explain has the rival's number, on every sheet."""
+    found = {}
+    for case, answer in zip(cases, answers):
+        refusal = refusals.first_refusal(case.sheet)
+        number, rival = refusal.number if refusal else 0, answer if isinstance(answer, int) else 0
+        found[rival] = found.get(rival, 0) + 1
+        check(number == rival, f"explain: {case.kind}: {number}, the rival has {rival} (0: accepted)")
+    check(set(found) == set(range(13)) - {7}, f"explain: the drawn sheets reach the numbers {sorted(found)}")
+
+
+def test_places(cases, answers):
+    """The field that explain names is the one: when it is repaired, what is named next stands behind it."""
+    repaired = []
+    for case, answer in zip(cases, answers):
+        if not isinstance(answer, int) or answer < 8:
+            continue
+        content, last = bytearray(case.sheet), (0, 0)
+        for _ in range(MOST_REPAIRS):
+            refusal = refusals.first_refusal(content)
+            if refusal is None:
+                repaired.append(sheets.Case(case.kind, bytes(content), sheets.LONGEST_BUFFER))
+                break
+            # A row of a sheet without producers cannot be repaired.
+            if content[11] == 0 and refusal.number == 10:
+                break
+            check((refusal.number, refusal.place) > last, f"explain: {case.kind}: byte {refusal.place} after {last}")
+            last = refusal.number, refusal.place
+            entry = next(entry for entry in records.entries(content) if entry.place == refusal.place)
+            allowed = {records.BUYER: records.SINGLE_BUYER, records.Z: records.LOWEST_Z}.get(entry.field.unit, 0)
+            content[entry.place:entry.place + entry.field.width] = allowed.to_bytes(entry.field.width, "big")
+    check(len(repaired) >= 50, f"explain: only {len(repaired)} sheets were repaired")
+    with tempfile.TemporaryDirectory() as folder:
+        for case, answer in zip(repaired, programs.rival_answers(repaired, folder)):
+            check(isinstance(answer, bytes), f"explain: {case.kind}: repaired, but the rival refuses it by {answer}")
+
+
+def test_round_trips(cases, answers):
+    """Every sheet that gets past refusal 6 comes back from its text byte for byte; others do, or are turned down."""
+    by_command = 0
+    for case, answer in zip(cases[:ROUND_TRIPS], answers):
+        number = answer if isinstance(answer, int) else 0
+        with tempfile.TemporaryDirectory() as folder:
+            text = os.path.join(folder, "month.toml")
+            if refusals.not_as_text(case.sheet):
+                check(number in range(1, 7), f"unpack: {case.kind}: turned down, though it gets past refusal 6")
+                continue
+            check(number not in (1, 2, 3, 6), f"unpack: {case.kind}: taken, though it is refused by {number}")
+            for path, content in monthtext.text_files(records.Sheet.from_bytes(case.sheet), text).items():
+                Path(path).write_bytes(content)
+            packed, _ = monthtext.read_sheet(text)
+            check(packed.to_bytes() == case.sheet, f"pack after unpack: {case.kind}")
+            if number in range(1, 7) or by_command == BY_COMMAND:
+                continue
+            by_command += 1
+            test_commands(case.kind, case.sheet, Path(folder), files_in(folder))
+
+
+def test_commands(name, content, folder, texts):
+    """unpack, started as a user starts it, writes the same texts and nothing else, pack the same bytes."""
+    (folder / "in.sheet").write_bytes(content)
+    for path in texts:
+        path.unlink()
+    done = run(SHEET, "unpack", "in.sheet", "month.toml", folder=folder)
+    check(done.returncode == 0 and not done.stdout + done.stderr, f"unpack: {name}", words_of(done))
+    check(files_in(folder) == {**texts, folder / "in.sheet": content}, f"unpack: {name}: the files")
+    done = run(SHEET, "pack", "month.toml", "out.sheet", folder=folder)
+    check(done.returncode == 0 and not done.stdout + done.stderr, f"pack: {name}", words_of(done))
+    check((folder / "out.sheet").read_bytes() == content, f"pack: {name}: the sheet")
+
+
+def largest_fields():
+    """Every figure the largest that its field holds, in as many records as get past refusal 6; one hour is another."""
+    for month, series, hour in ((records.Month(31, 7, 2 ** 31 - 1), 0, 743), (records.Month(28, 1, 0), 2, 0)):
+        powers = [array("I", [2 ** 32 - 1]) * month.hours for _ in range(3)]
+        powers[series][hour] = 0
+        producer = records.Producer(*[2 ** 32 - 1] * 3, [65535] * 3, [2 ** 32 - 1] * 6, *powers)
+        yield records.Sheet(month, [producer] * 6, [records.Row(255, 254, 2 ** 32 - 1, 2 ** 32 - 1)] * 32,
+                            [records.Consumer(2 ** 32 - 1, 2 ** 32 - 1, 255, 255, 255, 2 ** 32 - 1)] * 32).to_bytes()
+
+
+def test_largest_fields():
+    for content in largest_fields():
+        with tempfile.TemporaryDirectory() as folder:
+            (Path(folder) / "in.sheet").write_bytes(content)
+            sheet("unpack", "in.sheet", "month.toml", folder=folder)
+            done = sheet("pack", "month.toml", "-", folder=folder)
+            check(done.stdout == content, "pack after unpack: the largest figures of all fields", words_of(done))

@@ -1,0 +1,106 @@
+"""The examples: their texts, sheets and listings; show, explain and result on them; what the READMEs say of them."""
+import shutil
+import struct
+import tempfile
+from pathlib import Path
+
+import monthtext
+import programs
+import records
+from checks import EXAMPLES, PROGRAM, ROOT, check, files_in, run, sheet, words_of
+
+
+def test_examples(folder):
+    """Each text packs to its sheet, each sheet has its listing by the rival; show, explain and result on each."""
+    names = sorted(path.stem for path in EXAMPLES.glob("*.sheet"))
+    check(len(names) >= 17, f"examples: only {len(names)} sheets")
+    for name in names:
+        source, listing = EXAMPLES / f"{name}.sheet", (EXAMPLES / f"{name}.listing").read_bytes()
+        if (EXAMPLES / f"{name}.toml").is_file():
+            done = sheet("pack", EXAMPLES / f"{name}.toml", folder / f"{name}.sheet")
+            check(done.returncode == 0 and (folder / f"{name}.sheet").read_bytes() == source.read_bytes(),
+                  f"examples: {name}.toml packs to {name}.sheet", words_of(done))
+        done = run(programs.RIVAL, "list", source)
+        check(done.stdout == listing, f"examples: {name}.listing by the rival", words_of(done))
+        done = sheet("show", source)
+        check(done.returncode == 0 and done.stdout.startswith(b"length ") and not done.stderr,
+              f"show: {name}", words_of(done))
+        done = sheet("explain", source, folder=folder)
+        answer = f"refusal {listing[1:].decode().strip()}:" if listing.startswith(b"N") else "accepted\n"
+        check(done.returncode == 0 and done.stdout.startswith(answer.encode()), f"explain: {name}", words_of(done))
+        if not listing.startswith(b"N"):
+            test_result(name, source, listing, folder)
+
+
+def test_proved(folder):
+    """Each sheet has its listing by the proved program."""
+    for path in EXAMPLES.glob("*.sheet"):
+        done = run(PROGRAM, stdin=path.read_bytes())
+        listing = path.with_suffix(".listing").read_bytes()
+        check(done.stdout == listing, f"examples: {path.stem}.listing by the proved program", words_of(done))
+
+
+def test_result(name, source, listing, folder):
+    """The rival's result, printed by `result`, is the listing."""
+    kind, count, digits = run(programs.RIVAL, "settle", source).stdout.split()
+    content = bytes.fromhex(digits.decode())
+    check((kind, len(content)) == (b"bytes", int(count)), f"result: {name}: the rival's result")
+    (folder / f"{name}.bin").write_bytes(content)
+    done = sheet("result", f"{name}.bin", "--sheet", source, folder=folder)
+    check(done.returncode == 0 and done.stdout == listing, f"result: {name}, with its sheet", words_of(done))
+    done = sheet("result", "-", stdin=content + b"more of the buffer")
+    check(done.returncode == 0 and done.stdout == listing, f"result: {name}, without its sheet", words_of(done))
+
+
+def test_show_and_explain():
+    for name, lines in {
+        "month.sheet": ["holidays            day 1, day 16, day 17", " 26         3             0     5.0  568000.00",
+                        "       0  305853.6  307267.2  16437.0"],
+        "refused-1.sheet": ["The sheet ends after 13 bytes, inside the header."],
+        "refused-2.sheet": ["The sheet ends after 28 bytes; consumer 0 would end after 29."],
+        "refused-6.sheet": ["The last record ends after 29 bytes; the sheet has 30."],
+    }.items():
+        printed = sheet("show", EXAMPLES / name).stdout.decode().split("\n")
+        check(all(line in printed for line in lines), f"show: {name}", "\n".join(printed))
+    for name, line in {
+        "refused-1.sheet": "byte 13: count of consumers, which is cut off: the sheet ends after 13 bytes",
+        "refused-9.sheet": "byte 5232: producer 0, hour 431 (day 18, 23:00), possible power, 10000.1 MW "
+                           "(at most 10000.0)",
+        "refused-10.sheet": "byte 8707: row 1, consumer, 2 (the sheet has 2, numbered from 0; 255 is the single buyer)",
+    }.items():
+        printed = sheet("explain", "-", stdin=(EXAMPLES / name).read_bytes()).stdout.decode().split("\n")
+        check(printed[1:] == [line, ""], f"explain: {name}", "\n".join(printed))
+    long = struct.pack(">I", 70_000) + (EXAMPLES / "month.sheet").read_bytes()[4:]
+    done = sheet("explain", "-", stdin=long + bytes(70_000 - len(long)))
+    check(done.stdout.startswith(b"refusal 2:") and b"65536" in done.stdout, "explain: a long file", words_of(done))
+    done = sheet("explain", "--help")
+    check(b"not the proved program" in b" ".join(done.stdout.split()), "explain: its help", words_of(done))
+
+
+def test_readmes():
+    """The example of tools/README.md is the one that is tested here, and every key is named there."""
+    readme = (ROOT / "tools" / "README.md").read_text()
+    for kind, name in (("toml", "small.toml"), ("", "small.listing")):
+        check(f"```{kind}\n{(EXAMPLES / name).read_text()}```\n" in readme, f"tools/README.md has {name}")
+    keys = [field.key for field in (*records.PRODUCER_FIELDS, *records.ROW_FIELDS, *records.CONSUMER_FIELDS)]
+    for key in (*keys, *monthtext.TOP_KEYS[:5], "hours", monthtext.CSV_HEAD):
+        check(f"`{key}`" in readme, f"tools/README.md names {key}")
+    readme = (EXAMPLES / "README.md").read_text()
+    for path in EXAMPLES.glob("*.sheet"):
+        check(f"`{path.stem}`" in readme, f"examples/README.md names {path.stem}")
+
+
+def test_made_again():
+    """examples/make writes the same files again."""
+    with tempfile.TemporaryDirectory() as folder:
+        for name in ("tools", "rival", "target"):
+            (Path(folder) / name).symlink_to(ROOT / name)
+        copy = Path(folder) / "examples"
+        copy.mkdir()
+        for path in [EXAMPLES / "make", *EXAMPLES.glob("*.toml")]:
+            shutil.copy(path, copy)
+        done = run(copy / "make")
+        made = {path.name: content for path, content in files_in(copy).items()}
+        kept = {path.name: content for path, content in files_in(EXAMPLES).items() if path.name != "README.md"}
+        check(done.returncode == 0 and made == kept, "examples/make writes the same files",
+              words_of(done) + "".join(f"\n{name}" for name in {**made, **kept} if made.get(name) != kept.get(name)))
