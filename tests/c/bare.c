@@ -1,6 +1,6 @@
 /*
- * Settles the example sheet in a program that has no C library: beside capacity_settle it needs memset alone, which
- * stands here. The status is 0 if answer and result are right. Linux on x86-64.
+ * Settles the example sheet in a program that has no C library: beside capacity_settle it needs memcpy and memset
+ * alone, which stand here. The status is 0 if answer and result are right. Linux on x86-64.
  */
 #include "capacity.h"
 #include "example.h"
@@ -14,6 +14,17 @@ void *memset(void *to, int byte, size_t count)
     volatile uint8_t *at = to;
     while (count-- > 0)
         *at++ = (uint8_t)byte;
+    return to;
+}
+
+void *memcpy(void *to, const void *from, size_t count);
+
+void *memcpy(void *to, const void *from, size_t count)
+{
+    volatile uint8_t *at = to;
+    const uint8_t *next = from;
+    while (count-- > 0)
+        *at++ = *next++;
     return to;
 }
 

@@ -49,8 +49,7 @@ pub fn settle(sheet: &[u8], result: &mut [u8]) -> Answer
     if number != 0 {
         return Answer::Refused(number);
     }
-    let of = terms.of;
-    result::write_result(sheet, h, of, result);
+    result::write_result(sheet, h, terms, result);
     Answer::Written(result_length(h))
 }
 

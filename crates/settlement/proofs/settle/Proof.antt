@@ -32,14 +32,14 @@ returns-2 c =
 
 write-result-requires : tie.Need-write-result-requires
 write-result-requires c κs =
-    let a = c .before .before .before .before .before .before .before .before .before .before .args in
+    let a = c .before .before .before .before .before .before .before .before .before .args in
     let s = a .sheet .now in
     let room = length (a .result .now) in
-    let eh = c .before .before .before .before .before .header .ensures in
-    let early = sym (c .before .before .before .before .before .before .before .early-refusal .ensures) ∙ c .before .before .before .before .before .before .if1 .left in
-    let t = c .before .before .before .before .all-terms .ensures in
-    let number = c .before .before .before .figure-refusal .ensures ∙ figures-next s room _ eh early (t .1) in
-    let w = limits s room (sym number ∙ c .before .before .if2 .left) in (
+    let eh = c .before .before .before .before .header .ensures in
+    let early = sym (c .before .before .before .before .before .before .early-refusal .ensures) ∙ c .before .before .before .before .before .if1 .left in
+    let t = c .before .before .before .all-terms .ensures in
+    let number = c .before .before .figure-refusal .ensures ∙ figures-next s room _ eh early (t .1) in
+    let w = limits s room (sym number ∙ c .before .if2 .left) in (
       rw eh (w .month),
       (known-first _ s (header-within s room _ eh early) (whole s room _ eh early) _ (t .0 .0) (t .0 .1), rw eh (w .enough-room)),
     )
@@ -52,12 +52,12 @@ same-length c = search needs
 
 returns-3 : tie.Need-returns-3
 returns-3 c =
-    let a = c .before .before .before .before .before .before .before .before .before .before .before .before .before .before .args in
+    let a = c .before .before .before .before .before .before .before .before .before .before .before .before .before .args in
     let s = a .sheet .now in
     let room = length (a .result .now) in
-    let eh = c .before .before .before .before .before .before .before .before .before .header .ensures in
-    let number = c .before .before .before .before .before .before .before .figure-refusal .ensures ∙ figures-next s room _ eh (sym (c .before .before .before .before .before .before .before .before .before .before .before .early-refusal .ensures) ∙ c .before .before .before .before .before .before .before .before .before .before .if1 .left) (c .before .before .before .before .before .before .before .before .all-terms .ensures .1) in
-    settled s (a .result .now) _ _ _ eh (sym number ∙ c .before .before .before .before .before .before .if2 .left) (c .result-length .ensures) (c .before .before .before .write-result .ensures)
+    let eh = c .before .before .before .before .before .before .before .before .header .ensures in
+    let number = c .before .before .before .before .before .before .figure-refusal .ensures ∙ figures-next s room _ eh (sym (c .before .before .before .before .before .before .before .before .before .before .early-refusal .ensures) ∙ c .before .before .before .before .before .before .before .before .before .if1 .left) (c .before .before .before .before .before .before .before .all-terms .ensures .1) in
+    settled s (a .result .now) _ _ _ eh (sym number ∙ c .before .before .before .before .before .if2 .left) (c .result-length .ensures) (c .before .before .before .write-result .ensures)
 
 pub settle-spec : {M : Type 1} → statement M
 settle-spec =
