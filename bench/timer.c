@@ -35,10 +35,11 @@ static int64_t sum_of(const uint8_t *bytes, size_t length, uint8_t *out, size_t 
     return (int64_t)sum;
 }
 
+/* The processor's time, in nanoseconds: what other programs take in between is left out. */
 static double now(void)
 {
     struct timespec t;
-    clock_gettime(CLOCK_MONOTONIC, &t);
+    clock_gettime(CLOCK_PROCESS_CPUTIME_ID, &t);
     return 1e9 * (double)t.tv_sec + (double)t.tv_nsec;
 }
 

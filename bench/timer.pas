@@ -17,11 +17,12 @@ var
   Settlement: TSettlement;
   Outcome: TByteSequence = nil;
 
+{ The processor's time, in nanoseconds. }
 function Now: Double;
 var
   Time: TTimeSpec;
 begin
-  clock_gettime(CLOCK_MONOTONIC, @Time);
+  clock_gettime(CLOCK_PROCESS_CPUTIME_ID, @Time);
   Result := 1e9 * Time.tv_sec + Time.tv_nsec;
 end;
 
