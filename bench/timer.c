@@ -1,0 +1,90 @@
+/*
+ * Settles one sheet again and again, and prints the nanoseconds of a call, the answer, and a sum over the result.
+ *
+ *   timer module|c|sum|none CALLS SHEET [quiet]
+ *
+ * module: the proved archive. c: bench/settle.c. sum: no settlement; the sheet's bytes are added up, eight at a time.
+ * none: the loop with the call left out. quiet: nothing is printed, so that instructions can be counted.
+ */
+#define _POSIX_C_SOURCE 200809L
+#include <stdint.h>
+#include <stdio.h>
+#include <stdlib.h>
+#include <string.h>
+#include <time.h>
+
+#include "capacity.h"
+#include "settle.h"
+
+typedef int64_t settlement(const uint8_t *, size_t, uint8_t *, size_t);
+
+static uint8_t sheet[1 << 20], result[2000];
+
+static int64_t sum_of(const uint8_t *bytes, size_t length, uint8_t *out, size_t room)
+{
+    uint64_t sum = 0;
+    size_t at = 0;
+    (void)out, (void)room;
+    for (; at + 8 <= length; at += 8) {
+        uint64_t x;
+        memcpy(&x, bytes + at, sizeof x);
+        sum += x;
+    }
+    for (; at < length; at++)
+        sum += bytes[at];
+    return (int64_t)sum;
+}
+
+/* The processor's time, in nanoseconds: what other programs take in between is left out. */
+static double now(void)
+{
+    struct timespec t;
+    clock_gettime(CLOCK_PROCESS_CPUTIME_ID, &t);
+    return 1e9 * (double)t.tv_sec + (double)t.tv_nsec;
+}
+
+/* The nanoseconds of a call. The settlement is known only when the program runs, so no call is left out or moved. */
+static double timed(settlement *volatile settle, unsigned long calls, size_t length, int64_t *answer)
+{
+    double start = now();
+    for (unsigned long i = 0; i < calls; i++) {
+        settlement *it = settle;
+        if (it != NULL)
+            *answer = it(sheet, length, result, sizeof result);
+    }
+    return (now() - start) / (double)calls;
+}
+
+int main(int count, char **words)
+{
+    if (count != 4 && count != 5) {
+        fputs("usage: timer module|c|sum|none CALLS SHEET [quiet]\n", stderr);
+        return 2;
+    }
+    settlement *settle = NULL;
+    if (strcmp(words[1], "module") == 0)
+        settle = capacity_settle;
+    else if (strcmp(words[1], "c") == 0)
+        settle = c_settle;
+    else if (strcmp(words[1], "sum") == 0)
+        settle = sum_of;
+    unsigned long calls = strtoul(words[2], NULL, 10);
+    FILE *in = fopen(words[3], "rb");
+    if (in == NULL || calls == 0) {
+        fputs("timer: no such sheet, or no calls\n", stderr);
+        return 2;
+    }
+    size_t length = fread(sheet, 1, sizeof sheet, in);
+    fclose(in);
+
+    int64_t answer = 0;
+    timed(settle, calls / 8 + 1, length, &answer);
+    double taken = timed(settle, calls, length, &answer);
+    if (count == 5)
+        return 0;
+    uint32_t over = 0;
+    for (int64_t i = 0; i < answer && settle != sum_of; i++)
+        over = over * 31 + result[i];
+    printf("%.3f %lld %lu\n", taken, (long long)answer, (unsigned long)over);
+    return 0;
+}
