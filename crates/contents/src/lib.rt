@@ -5,6 +5,7 @@ ghost use Rattle.rules.specs.Refusals.{badShare, firstOf};
 ghost use Rattle.contents.specs.Contents.{producerTests, rowTests, consumerTests, highOwn, figureTestsWith};
 use fields::half;
 use fields::word;
+use form::first;
 use limits::above_one;
 use limits::bad_factor;
 use limits::bad_reference;
@@ -13,7 +14,6 @@ use limits::too_dear;
 use limits::too_high;
 use rules::Header;
 use sheet::consumer;
-use sheet::first;
 use sheet::producer_at;
 use sheet::row;
 

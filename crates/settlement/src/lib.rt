@@ -6,11 +6,11 @@ ghost use Rattle.rules.specs.Outcome.{outcome, bufferAfter, hoursStretch, withi
 ghost use Rattle.settlement.specs.Said.{said, inC};
 ghost use Rattle.settlement.specs.Early.{earlyRefusal};
 use contents::figure_refusal;
-use sheet::form_refusal;
+use form::form_refusal;
+use form::producer_hours;
+use form::room_refusal;
 use sheet::header;
-use sheet::producer_hours;
 use sheet::result_length;
-use sheet::room_refusal;
 use terms::all_terms;
 
 mod consumers;

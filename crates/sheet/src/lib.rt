@@ -1,4 +1,4 @@
-// The sheet: where its records stand, what its header says, and whether it is turned down.
+// The sheet: where its records stand, and what its header, rows and consumers say.
 ghost use mathlib.Core.Path.{_≡_};
 ghost use Prim.Native.Nat.{_≤_};
 ghost use Rattle.rules.specs.Sheet.{headerOf, producerAt, hourAt, rowAt, consumerAt, sheetLength, rowOf, consumerOf};
@@ -8,14 +8,6 @@ use fields::word;
 use rules::Consumer;
 use rules::Header;
 use rules::Row;
-
-mod form;
-mod stretch;
-
-pub use form::first;
-pub use form::form_refusal;
-pub use form::room_refusal;
-pub use stretch::producer_hours;
 
 // The header's month and counts.
 pub fn header(s: &[u8]) -> Header

@@ -1,7 +1,7 @@
 use Rattle.rules.specs.Refusals.{roomTests, firstOf}
 use borrow.Author.Needs.{needs}
-use Rattle.sheet.proofs.form.room_refusal.Statement.{statement}
-use Rattle.sheet.proofs.form.room_refusal.Tie as tie
+use Rattle.form.proofs.room_refusal.Statement.{statement}
+use Rattle.form.proofs.room_refusal.Tie as tie
 
 result-length-requires : tie.Need-result-length-requires
 result-length-requires c κs = search needs

@@ -1,10 +1,10 @@
 use mathlib.Core.Path.{refl, sym, _∙_}
 use native.Mathlib.Omega.{arith}
 use Rattle.laws.proofs.Refusals.{stretch-refused, stretch-none}
-use Rattle.sheet.proofs.Hours.{no-stretch, stretch-fits, stretch-list, stretch-place}
+use Rattle.form.proofs.Handed.{no-stretch, stretch-fits, stretch-list, stretch-place}
 use borrow.Author.Needs.{needs}
-use Rattle.sheet.proofs.stretch.producer_hours.Statement.{statement}
-use Rattle.sheet.proofs.stretch.producer_hours.Tie as tie
+use Rattle.form.proofs.stretch.producer_hours.Statement.{statement}
+use Rattle.form.proofs.stretch.producer_hours.Tie as tie
 
 form-refusal-requires : tie.Need-form-refusal-requires
 form-refusal-requires c κs = search needs

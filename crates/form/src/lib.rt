@@ -1,14 +1,18 @@
-// Numbers 1 to 7: the sheet's form and the result buffer's room.
+// Numbers 1 to 7: the sheet's form and the result buffer's room; and a producer's hours, which are handed back where 1 to 6 pass.
 ghost use mathlib.Core.Path.{_≡_};
 ghost use mathlib.Core.Bool.{cond};
 ghost use Rattle.rules.specs.Refusals.{badMonth, tooMany, formTests, roomTests, firstOf};
-use crate::header;
-use crate::result_length;
-use crate::sheet_length;
 use calendar::holiday_past;
 use fields::byte;
 use fields::word;
 use rules::Header;
+use sheet::header;
+use sheet::result_length;
+use sheet::sheet_length;
+
+mod stretch;
+
+pub use stretch::producer_hours;
 
 // The number where its test applies, otherwise what the tests after it say.
 pub fn first(number: u8, applies: bool, rest: u8) -> u8

@@ -1,7 +1,7 @@
 use mathlib.Core.Bool.{or-false}
 use Rattle.rules.specs.Refusals.{oneOf, tooMany}
-use Rattle.sheet.proofs.form.too_many.Statement.{statement}
-use Rattle.sheet.proofs.form.too_many.Tie as tie
+use Rattle.form.proofs.too_many.Statement.{statement}
+use Rattle.form.proofs.too_many.Tie as tie
 
 returns : tie.Need-returns
 unfolding tooMany oneOf

@@ -1,8 +1,8 @@
 use mathlib.Core.Bool.{or-false}
 use Rattle.rules.specs.Refusals.{oneOf, badMonth}
 use borrow.Author.Needs.{needs}
-use Rattle.sheet.proofs.form.bad_month.Statement.{statement}
-use Rattle.sheet.proofs.form.bad_month.Tie as tie
+use Rattle.form.proofs.bad_month.Statement.{statement}
+use Rattle.form.proofs.bad_month.Tie as tie
 
 holiday-past-requires : tie.Need-holiday-past-requires
 holiday-past-requires c κs = search needs

@@ -1,8 +1,8 @@
 use Rattle.rules.specs.Refusals.{firstOf, formTests}
 use Rattle.rules.specs.Sheet.{lengthField, version}
 use borrow.Author.Needs.{needs}
-use Rattle.sheet.proofs.form.form_refusal.Statement.{statement}
-use Rattle.sheet.proofs.form.form_refusal.Tie as tie
+use Rattle.form.proofs.form_refusal.Statement.{statement}
+use Rattle.form.proofs.form_refusal.Tie as tie
 
 header-requires : tie.Need-header-requires
 header-requires c κs = search needs
