@@ -48,13 +48,13 @@ unfolding bigEndian
 read-drop zero n s at = refl
 read-drop (suc w) n s at = simp (read-drop w n s at, getD-drop, add-assoc)
 
--- A figure that fits its width is read again.
 -- Read in the n bytes from a place on.
 pub read-part : (w n at k : ℕ) (s : List ℕ) → k + w ≤ n → bigEndian w (take n (drop at s)) k ≡ bigEndian w s (at + k)
 read-part w n at k s fits =
     same-bytes w (take n (drop at s)) s k (at + k)
     (λ i l. getD-take n (drop at s) (k + i) 0 (omega arith) ∙ getD-drop at s (k + i) 0 ∙ ap (λ (x : ℕ). getD s x 0) (sym (add-assoc at k i)))
 
+-- A figure that fits its width is read again.
 read-written : (w v : ℕ) (t : List ℕ) → v < 256 ^ w → bigEndian w (bytesOf w v ++ t) 0 ≡ v
 unfolding bigEndian bytesOf
 read-written zero v t h = omega arith

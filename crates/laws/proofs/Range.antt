@@ -1,6 +1,6 @@
 -- Laws of sums and tests over a range, each once. Assumes nothing.
 use mathlib.Core.Path.{_≡_, refl, sym, ap, _∙_}
-use mathlib.Core.Bool.{Bool, true, false, _||_, or-true, true≢false}
+use mathlib.Core.Bool.{Bool, true, false, _||_, or-true, or-false, or-assoc, true≢false}
 use mathlib.Core.Logic.{⊎-elim}
 use Prim.Native.Nat.{ℕ, zero, suc, zero-le, _+_, _*_, _≤_, _<_}
 use native.Mathlib.Nat.{le-refl, le-antisymm, le-of-eq, suc-mul, eq-or-lt-of-le, le-of-suc-le-suc}
@@ -106,6 +106,14 @@ any-hit f zero i l q = absurd (omega arith)
 any-hit f (suc n) i l q =
     ⊎-elim (λ e. ap (λ (b : Bool). any f n || b) (ap f (sym e) ∙ q) ∙ or-true (any f n)) (λ k. rw (any-hit f n i k q))
     (eq-or-lt-of-le (le-of-suc-le-suc l))
+
+-- A test over a + b places is one over the first a, and over the b after them.
+pub any-append : (f : ℕ → Bool) (a b : ℕ) → any f (a + b) ≡ (any f a || any (λ i. f (a + i)) b)
+unfolding any
+any-append f a zero = let none : a + 0 ≡ a = omega arith in rw none (sym (or-false (any f a)))
+any-append f a (suc b) =
+    let next : a + suc b ≡ suc (a + b) = omega arith in
+    rw (next, any-append f a b) (or-assoc (any f a) (any (λ i. f (a + i)) b) (f (a + b)))
 
 pub any-end : (f : ℕ → Bool) {i n : ℕ} → i ≤ n → n ≤ i → any f i ≡ false → any f n ≡ false
 any-end f {i} {n} p q h = let e : n ≡ i = omega arith in ap (any f) e ∙ h

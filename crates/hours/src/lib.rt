@@ -1,0 +1,118 @@
+// What the hours of a sheet say of one producer: k4's sums, and whether a power is above the ceiling.
+ghost use mathlib.Core.Path.{_≡_};
+ghost use Prim.Native.Nat.{_+_, _*_, _<_, _≤_, min};
+ghost use lib.ListN.{length};
+ghost use Rattle.rules.specs.Month.{hours};
+ghost use Rattle.rules.specs.Sheet.{hourAt, hoursWidth, hourOf, monthUnder};
+ghost use Rattle.hours.specs.Sums.{K4Before, sumsIn};
+use fields::word;
+use rules::Header;
+use rules::Hour;
+use sheet::hours_at;
+
+mod high;
+
+// Over the hours: m and what was met of it (k4), in tenths of a megawatt; and whether a power is above the ceiling (number 9).
+pub struct Sums {
+    pub asked: u64,
+    pub met: u64,
+    pub high: bool,
+}
+
+// The same without number 9.
+struct K4 {
+    asked: u64,
+    met: u64,
+}
+
+// Hour i of producer p. One part of the sheet is lent for its three powers, so that each of them is one load.
+fn hour(s: &[u8], h: Header, p: u8, i: usize) -> Hour
+    requires { ⌜ (hourAt h p 0 + hoursWidth h ≤ length (now s)) × (i < hours h) ⌝ }
+    ensures { λ r. ⌜ r ≡ hourOf (now (s .entry)) (hourAt h p i) ⌝ }
+{
+    let at = hours_at(h, p) + 12 * i;
+    let end = at + 12;
+    let part = &s[at..end];
+    Hour {
+        working: word(part, 0),
+        possible: word(part, 4),
+        outside: word(part, 8),
+    }
+}
+
+fn smaller(a: u64, b: u64) -> u64
+    ensures { λ r. ⌜ r ≡ min a b ⌝ }
+{
+    if a < b { a } else { b }
+}
+
+// k4's sums with hour i, for a summed capacity S.
+fn with_hour(k: K4, s: &[u8], h: Header, p: u8, i: usize, summed: u64) -> K4
+    requires { ⌜ (hourAt h p 0 + hoursWidth h ≤ length (now s)) × (i < hours h) ⌝ }
+    requires { ⌜ K4Before (monthUnder h (now s) .producer p) summed i k ⌝ }
+    ensures { λ r. ⌜ K4Before (monthUnder h (now (s .entry)) .producer p) summed (i + 1) r ⌝ }
+{
+    let x = hour(s, h, p, i);
+    let m = smaller(summed, x.possible as u64);
+    let met = smaller(m, x.working as u64);
+    K4 {
+        asked: k.asked + m,
+        met: k.met + met,
+    }
+}
+
+// The same with three hours.
+fn with_three(k: K4, s: &[u8], h: Header, p: u8, i: usize, summed: u64) -> K4
+    requires { ⌜ (hourAt h p 0 + hoursWidth h ≤ length (now s)) × (i + 3 ≤ hours h) ⌝ }
+    requires { ⌜ K4Before (monthUnder h (now s) .producer p) summed i k ⌝ }
+    ensures { λ r. ⌜ K4Before (monthUnder h (now (s .entry)) .producer p) summed (i + 3) r ⌝ }
+{
+    let a = with_hour(k, s, h, p, i, summed);
+    let b = with_hour(a, s, h, p, i + 1, summed);
+    with_hour(b, s, h, p, i + 2, summed)
+}
+
+// The same with six hours, so that the loop over the hours turns once for all of them.
+fn with_six(k: K4, s: &[u8], h: Header, p: u8, i: usize, summed: u64) -> K4
+    requires { ⌜ (hourAt h p 0 + hoursWidth h ≤ length (now s)) × (i + 6 ≤ hours h) ⌝ }
+    requires { ⌜ K4Before (monthUnder h (now s) .producer p) summed i k ⌝ }
+    ensures { λ r. ⌜ K4Before (monthUnder h (now (s .entry)) .producer p) summed (i + 6) r ⌝ }
+{
+    let a = with_three(k, s, h, p, i, summed);
+    with_three(a, s, h, p, i + 3, summed)
+}
+
+// k4's sums over producer p's hours.
+fn k4_sums(s: &[u8], h: Header, p: u8, summed: u64) -> K4
+    requires { ⌜ hourAt h p 0 + hoursWidth h ≤ length (now s) ⌝ }
+    ensures { λ r. ⌜ K4Before (monthUnder h (now (s .entry)) .producer p) summed (hours h) r ⌝ }
+{
+    let mut k = K4 { asked: 0, met: 0 };
+    let mut q: usize = 0;
+    while q < 4 * (h.days as usize) {
+        k = with_six(k, s, h, p, 6 * q, summed);
+        q += 1;
+    }
+    k
+}
+
+// The sums over producer p's hours, for a summed capacity S. Where the sheet ends before the producer's hours do there are none.
+pub fn hour_sums(s: &[u8], h: Header, p: u8, summed: u64) -> Sums
+    ensures { λ r. ⌜ r ≡ sumsIn h (now (s .entry)) p summed ⌝ }
+    ensures fits { λ r. ⌜ (r .asked ≤ 4294967295 * hours h) × (r .met ≤ 4294967295 * hours h) ⌝ }
+{
+    if s.len() < hours_at(h, p) + 288 * (h.days as usize) {
+        return Sums {
+            asked: 0,
+            met: 0,
+            high: false,
+        };
+    }
+    let k = k4_sums(s, h, p, summed);
+    let high = high::high_hours(s, h, p);
+    Sums {
+        asked: k.asked,
+        met: k.met,
+        high,
+    }
+}
