@@ -4,11 +4,11 @@ ghost use Prim.Native.Nat.{_-_, _*_, max};
 ghost use Rattle.rules.specs.ControlHours.{average};
 ghost use Rattle.rules.specs.Bands.{bandOf, thousandths};
 ghost use Rattle.rules.specs.Coefficients.{share};
-use figures::factor;
+use bands::factor;
+use bands::thousandths;
 use figures::less;
 use figures::nearest;
 use figures::share;
-use figures::thousandths;
 
 // D of k1.
 pub fn overuse(counted: u64, count: u64, deductible: u32) -> u64

@@ -1,8 +1,7 @@
-// Big-endian fields: read at any place of a slice, and written at the front of a lent part.
+// Big-endian fields, read at any place of a slice.
 ghost use mathlib.Core.Path.{_≡_};
 ghost use Prim.Native.Nat.{_≤_};
-ghost use Rattle.rules.specs.Fields.{bigEndian, bytesOf};
-ghost use Rattle.fields.specs.Placed.{placed};
+ghost use Rattle.rules.specs.Fields.{bigEndian};
 
 // The byte at a place; 0 past the end.
 pub fn byte(s: &[u8], at: usize) -> u8
@@ -50,54 +49,4 @@ pub fn word(s: &[u8], at: usize) -> u32
         return word_at_end(s, at);
     }
     wide(s[at]) * 16777216 + wide(s[at + 1]) * 65536 + wide(s[at + 2]) * 256 + wide(s[at + 3])
-}
-
-// A byte at the front of a lent part, if the part has room; its other bytes stay.
-pub fn put_byte(part: &mut [u8], v: u8)
-    ensures { λ _. ⌜ now (part .exit) ≡ placed (bytesOf 1 v) (now (part .entry)) ⌝ }
-{
-    if part.len() < 1 {
-        return;
-    }
-    part[0] = v;
-}
-
-// The last four bytes of a number at the front of a lent part, if the part has room; its other bytes stay.
-pub fn put_word(part: &mut [u8], v: u64)
-    ensures { λ _. ⌜ now (part .exit) ≡ placed (bytesOf 4 v) (now (part .entry)) ⌝ }
-{
-    if part.len() < 4 {
-        return;
-    }
-    let a = v / 256;
-    let b = a / 256;
-    let c = b / 256;
-    part[0] = (c % 256) as u8;
-    part[1] = (b % 256) as u8;
-    part[2] = (a % 256) as u8;
-    part[3] = (v % 256) as u8;
-}
-
-// Eight bytes at the front of a lent part, if the part has room; its other bytes stay.
-pub fn put_long(part: &mut [u8], v: u64)
-    ensures { λ _. ⌜ now (part .exit) ≡ placed (bytesOf 8 v) (now (part .entry)) ⌝ }
-{
-    if part.len() < 8 {
-        return;
-    }
-    let a = v / 256;
-    let b = a / 256;
-    let c = b / 256;
-    let d = c / 256;
-    let e = d / 256;
-    let f = e / 256;
-    let g = f / 256;
-    part[0] = (g % 256) as u8;
-    part[1] = (f % 256) as u8;
-    part[2] = (e % 256) as u8;
-    part[3] = (d % 256) as u8;
-    part[4] = (c % 256) as u8;
-    part[5] = (b % 256) as u8;
-    part[6] = (a % 256) as u8;
-    part[7] = (v % 256) as u8;
 }

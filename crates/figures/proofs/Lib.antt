@@ -1,3 +1,1 @@
 pub mod Rounding
-pub mod Bands
-pub mod Divisors

@@ -6,7 +6,7 @@ use lib.ListN.{length}
 use borrow.Author.Tests.{lt-ltb, le-ltb}
 use Rattle.rules.specs.Fields.{over, bytesOf}
 use Rattle.laws.proofs.Fields.{length-bytesOf}
-use Rattle.fields.specs.Placed.{placed}
+use Rattle.writing.specs.Placed.{placed}
 
 pub placed-not : (p part : List ℕ) → length part < length p → placed p part ≡ part
 unfolding placed

@@ -1,12 +1,12 @@
 use native.Mathlib.Omega.{arith}
 use Rattle.rules.specs.Fields.{bytesOf, over}
 use lib.Seq.{sets-eq}
-use Rattle.fields.proofs.Placing.{field-not, field-over}
+use Rattle.writing.proofs.Placing.{field-not, field-over}
 use lib.ListN.{length-set}
 use mathlib.Core.Path.{_∙_, sym}
 use borrow.Author.Needs.{needs}
-use Rattle.fields.proofs.put_word.Statement.{statement}
-use Rattle.fields.proofs.put_word.Tie as tie
+use Rattle.writing.proofs.put_word.Statement.{statement}
+use Rattle.writing.proofs.put_word.Tie as tie
 
 returns : tie.Need-returns
 returns c = sym (field-not 4 _ _ (c .if1 .taken))

@@ -3,12 +3,12 @@ use native.Mathlib.Nat.{mod-eq-of-lt}
 use native.Mathlib.Omega.{arith}
 use Rattle.rules.specs.Fields.{bytesOf, over}
 use lib.Seq.{sets-eq}
-use Rattle.fields.proofs.Placing.{field-not, field-over}
+use Rattle.writing.proofs.Placing.{field-not, field-over}
 use lib.ListN.{set, length-set}
 use mathlib.Core.Path.{_≡_, sym, ap, _∙_}
 use borrow.Author.Needs.{needs}
-use Rattle.fields.proofs.put_byte.Statement.{statement}
-use Rattle.fields.proofs.put_byte.Tie as tie
+use Rattle.writing.proofs.put_byte.Statement.{statement}
+use Rattle.writing.proofs.put_byte.Tie as tie
 
 returns : tie.Need-returns
 returns c = sym (field-not 1 _ _ (c .if1 .taken))
