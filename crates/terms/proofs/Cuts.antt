@@ -16,8 +16,8 @@ use Rattle.rules.specs.Refusals.{highHour}
 use Rattle.rules.specs.Limits.{HeaderLimits}
 use Rattle.rules.specs.Cut.{ownVolume, supportVolume, bilateralVolume, summedCapacity, excess, leftToCut}
 use Rattle.laws.proofs.Range.{sum-none, any-start, any-fold}
-use Rattle.producer.specs.declared.Volumes.{Volumes}
-use Rattle.producer.specs.Sums.{volumesOf}
+use Rattle.volumes.specs.declared.Volumes.{Volumes}
+use Rattle.volumes.specs.Volumes.{volumesOf}
 use Rattle.terms.specs.declared.Terms.{Terms}
 use Rattle.terms.specs.Terms.{termsAt, noTerms, zeroTerms, withTerms, termsOf, highHours, Known}
 

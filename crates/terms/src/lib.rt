@@ -6,29 +6,32 @@ ghost use Rattle.rules.specs.Range.{any};
 ghost use Rattle.rules.specs.Month.{hours};
 ghost use Rattle.rules.specs.Refusals.{highHour};
 ghost use Rattle.rules.specs.Sheet.{sheetLength, producerAt, hourAt, hoursWidth, monthUnder};
-ghost use Rattle.rules.specs.ControlHours.{controlCount, average};
+ghost use Rattle.rules.specs.ControlHours.{average};
 ghost use Rattle.rules.specs.Bands.{bandOf, thousandths};
 ghost use Rattle.rules.specs.Cut.{summedCapacity};
 ghost use Rattle.rules.specs.Coefficients.{share, lessPenalty, coefficients};
-ghost use Rattle.producer.specs.Sums.{volumesOf, sumsOf};
+ghost use Rattle.volumes.specs.Volumes.{volumesOf};
+ghost use Rattle.hours.specs.Sums.{sumsOf};
+ghost use Rattle.control.specs.Control.{controlOf};
 ghost use Rattle.terms.specs.Terms.{termsAt, termsOf, noTerms, withTerms, highHours};
 use coefficients::bids;
 use coefficients::overuse;
 use coefficients::penalty;
 use coefficients::plans;
+use control::Control;
+use control::control_hours;
 use fields::half;
 use fields::word;
 use figures::ONE;
 use figures::less;
 use figures::nearest;
-use producer::Sums;
-use producer::Volumes;
-use producer::control_count;
-use producer::hour_sums;
-use producer::row_volumes;
+use hours::Sums;
+use hours::hour_sums;
 use rules::Header;
 use sheet::producer_at;
 use sheet::sheet_length;
+use volumes::Volumes;
+use volumes::row_volumes;
 
 // What is left to cut of a producer's rows, in tenths of a megawatt, and k1 to k10, in millionths.
 pub struct Terms {
@@ -86,16 +89,18 @@ fn k4_of(sums: Sums) -> u64
 }
 
 // k1 to k10 of producer p, whose figures begin at a place.
-fn ks_of(s: &[u8], h: Header, p: u8, at: usize, v: Volumes, sums: Sums, count: u64) -> [u64; 10]
+fn ks_of(s: &[u8], h: Header, p: u8, at: usize, v: Volumes, sums: Sums, control: Control) -> [u64; 10]
     requires { ⌜ (h .days ≤ 31) × (at ≡ producerAt h p) × (at ≤ 20000000) ⌝ }
     requires { ⌜ (v ≡ volumesOf (monthUnder h (now s)) p) × (v .support ≤ 1095216660225) ⌝ }
-    requires { ⌜ sums ≡ sumsOf h (monthUnder h (now s) .producer p) (summedCapacity (monthUnder h (now s)) p) ⌝ }
-    requires { ⌜ (sums .met ≤ 4294967295 * hours h) × (sums .counted ≤ 4294967295 * count) × (count ≡ controlCount h) ⌝ }
+    requires { ⌜ (sums ≡ sumsOf h (monthUnder h (now s) .producer p) (summedCapacity (monthUnder h (now s)) p))
+        × (sums .met ≤ 4294967295 * hours h) ⌝ }
+    requires { ⌜ (control ≡ controlOf h (monthUnder h (now s) .producer p .outsideUse))
+        × (control .counted ≤ 4294967295 * control .count) ⌝ }
     ensures { λ r. ⌜ r ≡ coefficients (monthUnder h (now (s .entry))) p ⌝ }
 {
     let hours = 24 * (h.days as u32);
     [
-        k1_of(sums.counted, count, word(s, at + 4), v.support),
+        k1_of(control.counted, control.count, word(s, at + 4), v.support),
         bids(hours, half(s, at + 12), half(s, at + 14)),
         word(s, at + 18) as u64,
         k4_of(sums),
@@ -109,18 +114,19 @@ fn ks_of(s: &[u8], h: Header, p: u8, at: usize, v: Volumes, sums: Sums, count: u
 }
 
 // Producer p's excess and coefficients, before the first row, and number 9 of its hours.
-fn found_of(s: &[u8], h: Header, p: u8, count: u64) -> Found
-    requires { ⌜ (h .days ≤ 31) × (hourAt h p 0 + hoursWidth h ≤ length (now s)) × (count ≡ controlCount h) ⌝ }
+fn found_of(s: &[u8], h: Header, p: u8, v: Volumes) -> Found
+    requires { ⌜ (h .days ≤ 31) × (hourAt h p 0 + hoursWidth h ≤ length (now s)) ⌝ }
+    requires { ⌜ (v ≡ volumesOf (monthUnder h (now s)) p) × (v .support ≤ 1095216660225) × (v .bilateral ≤ 1095216660225) ⌝ }
     ensures { λ r. ⌜ (r .terms ≡ termsAt (monthUnder h (now (s .entry))) p 0)
         × (r .high ≡ any (highHour (monthUnder h (now (s .entry)) .producer p)) (hours h)) ⌝ }
 {
     let at = producer_at(h, p);
-    let v = row_volumes(s, h, p);
     let summed = v.support + v.bilateral + word(s, at + 4) as u64;
     let own = less(summed, word(s, at + 8) as u64);
     let excess = less(own, word(s, at) as u64);
     let sums = hour_sums(s, h, p, summed);
-    let ks = ks_of(s, h, p, at, v, sums, count);
+    let control = control_hours(s, h, p);
+    let ks = ks_of(s, h, p, at, v, sums, control);
     let terms = Terms { excess, ks };
     Found {
         terms,
@@ -153,12 +159,13 @@ pub fn all_terms(s: &[u8], h: Header) -> AllTerms
     };
     let mut of = [none; 6];
     let mut high = false;
-    let count = control_count(h);
+    let volumes = row_volumes(s, h);
     let n = with_terms(s, h);
     let mut p: u8 = 0;
     while p < n {
         let i = p as usize;
-        let found = found_of(s, h, p, count);
+        let v = volumes[i];
+        let found = found_of(s, h, p, v);
         let t = found.terms;
         of[i] = t;
         high = high | found.high;

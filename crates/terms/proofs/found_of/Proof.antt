@@ -3,9 +3,10 @@ use mathlib.Core.Path.{ap, _∙_}
 use Prim.Native.Nat.{ℕ, _+_}
 use Rattle.rules.specs.Fields.{bigEndian}
 use Rattle.rules.specs.Sheet.{monthUnder}
-use Rattle.producer.specs.declared.Sums.{Sums}
-use Rattle.producer.specs.Sums.{sumsOf}
-use Rattle.producer.proofs.Inside.{sums-inside}
+use Rattle.hours.specs.declared.Sums.{Sums}
+use Rattle.hours.specs.Sums.{sumsOf}
+use Rattle.hours.proofs.Inside.{sums-inside}
+use Rattle.control.proofs.Inside.{control-inside}
 use Rattle.terms.proofs.Cuts.{summed-is, left-first}
 use borrow.Author.Needs.{needs}
 use Rattle.terms.proofs.found_of.Statement.{statement}
@@ -13,9 +14,6 @@ use Rattle.terms.proofs.found_of.Tie as tie
 
 producer-at-requires : tie.Need-producer-at-requires
 producer-at-requires c κs = search needs
-
-row-volumes-requires : tie.Need-row-volumes-requires
-row-volumes-requires c κs = search needs
 
 add-summed : tie.Need-add-summed
 add-summed c = search needs
@@ -55,6 +53,9 @@ less-requires-2 c κs = search needs
 
 hour-sums-requires : tie.Need-hour-sums-requires
 hour-sums-requires c κs = search needs
+
+control-hours-requires : tie.Need-control-hours-requires
+control-hours-requires c κs = search needs
 
 ks-of-requires : tie.Need-ks-of-requires
 ks-of-requires c κs =
@@ -100,7 +101,6 @@ found-of-spec =
     tie.close
     (tie.spec
     producer-at-requires
-    row-volumes-requires
     add-summed
     add-word
     word-requires
@@ -114,5 +114,6 @@ found-of-spec =
     cast-less-2
     less-requires-2
     hour-sums-requires
+    control-hours-requires
     ks-of-requires
     returns)

@@ -49,7 +49,7 @@ cast-t19 c = search needs
 k4-of-requires : tie.Need-k4-of-requires
 k4-of-requires c κs =
     let a = c .before .before .before .before .before .before .before .before in
-    omega (arith, a .pre .1 .1 .1 .0, a .pre .0 .0)
+    omega (arith, a .pre .1 .1 .0 .1, a .pre .0 .0)
 
 add-half-3 : tie.Need-add-half-3
 add-half-3 c = search needs
@@ -125,8 +125,8 @@ returns c =
       c .before .word6 .ensures,
       c .word7 .ensures,
       a .pre .1 .0 .0,
-      a .pre .1 .1 .0,
-      a .pre .1 .1 .1 .2,
+      a .pre .1 .1 .0 .0,
+      a .pre .1 .1 .1 .0,
       a .pre .0 .1,
     )
 
