@@ -1,0 +1,105 @@
+-- What a loop over the days carries, from a day to the next, and the six hours of an evening in the sheet. Assumes nothing.
+use mathlib.Core.Path.{_≡_, refl, sym, ap, _∙_}
+use mathlib.Core.Bool.{Bool, true, false, not, _&&_}
+use mathlib.Core.List.{List}
+use Prim.Native.Nat.{ℕ, zero-le, _+_, _*_, _/_, _%_, _^_, _≤_, _<_}
+use native.Mathlib.Nat.{add-zero}
+use native.Mathlib.Omega.{arith}
+use lib.Dec.{eqb, leb}
+use lib.ListN.{take, drop}
+use lib.Pow.{shr-shr}
+use Rattle.rules.specs.declared.Header.{Header}
+use Rattle.rules.specs.Fields.{bigEndian}
+use Rattle.rules.specs.Range.{sum, when}
+use Rattle.rules.specs.Sheet.{hourAt, hourOf, monthUnder}
+use Rattle.rules.specs.ControlHours.{weekdayOn, holidayOn, controlDay, controlSum}
+use Rattle.laws.proofs.Range.{sum-none, sum-more, sum-fold, sum-same}
+use Rattle.laws.proofs.Fields.{read-part}
+use Rattle.laws.proofs.ControlHours.{evening, control-by-day, count-by-day}
+use Rattle.sheet.proofs.Hours.{hour-there}
+use Rattle.control.specs.declared.Control.{Control}
+use Rattle.control.specs.Control.{controlOf}
+
+-- The weekday of a day, and the holidays from it on.
+module _ (h : Header) (day : ℕ) where
+  pub weekday-le : {w : ℕ} → w ≡ weekdayOn h day → w ≤ 7
+  unfolding weekdayOn
+  weekday-le e = omega (arith, e)
+
+  pub weekday-next : {w : ℕ} → w ≡ weekdayOn h day → w % 7 + 1 ≡ weekdayOn h (day + 1)
+  unfolding weekdayOn
+  weekday-next e = omega (arith, e)
+
+  pub holidays-next : {x : ℕ} → x ≡ h .holidays / 2 ^ day → x / 2 ≡ h .holidays / 2 ^ (day + 1)
+  holidays-next e = ap (λ (x : ℕ). x / 2) e ∙ shr-shr (h .holidays) day 1
+
+  -- A control day, by what is carried.
+  pub control-test : {w x : ℕ} {b : Bool} → w ≡ weekdayOn h day → x ≡ h .holidays / 2 ^ day → (leb w 5 && not (eqb (x % 2) 1)) ≡ b
+      → controlDay h day ≡ b
+  unfolding controlDay holidayOn
+  control-test ew ex t = rw (← ew, ← ex) t
+
+-- The control hours of the days before a day: their outside use, and how many they are.
+pub record SoFar (h : Header) (series : ℕ → ℕ) (day counted count : ℕ) : Type 0 where
+  pub sum-is : counted ≡ sum (λ d. when (controlDay h d) (evening series d)) day
+  pub count-is : count ≡ sum (λ d. when (controlDay h d) 6) day
+  pub fits : counted ≤ 4294967295 * count
+  pub few : count ≤ 6 * day
+
+module _ (h : Header) (series : ℕ → ℕ) where
+  pub none-yet : SoFar h series 0 0 0
+  none-yet = record { sum-is = sym (sum-none _); count-is = sym (sum-none _); fits = zero-le; few = zero-le }
+
+  pub control-more : {day counted count v : ℕ} → SoFar h series day counted count → controlDay h day ≡ true → v ≡ evening series day
+      → v ≤ 25769803770 → SoFar h series (day + 1) (counted + v) (count + 6)
+  unfolding when
+  control-more k e q l =
+      record {
+        sum-is = sum-fold _ _ (k .sum-is) (rw e q);
+        count-is = sum-fold _ _ (k .count-is) (rw e);
+        fits = omega arith;
+        few = omega arith;
+      }
+
+  pub other-more : {day counted count : ℕ} → SoFar h series day counted count → controlDay h day ≡ false → SoFar h series (day + 1) counted count
+  unfolding when
+  other-more {day} k e =
+      record {
+        sum-is = k .sum-is ∙ sym (sum-more _ day ∙ rw (e, add-zero));
+        count-is = k .count-is ∙ sym (sum-more _ day ∙ rw (e, add-zero));
+        fits = k .fits;
+        few = omega arith;
+      }
+
+  pub all-days : {counted count : ℕ} → SoFar h series (h .days) counted count → _≡_ {A = Control} (record { counted = counted; count = count }) (controlOf h series)
+  unfolding controlSum
+  all-days k = rw (k .sum-is ∙ sym (control-by-day h series (h .days)), k .count-is ∙ sym (count-by-day h))
+
+-- The outside use of six hours, read in the n bytes from a place on.
+abbrev readIn : List ℕ → ℕ → ℕ → ℕ → ℕ
+readIn s at n k = bigEndian 4 (take n (drop at s)) k
+
+pub six-read : (s : List ℕ) (at n : ℕ) → 72 ≤ n → {a b c d e f : ℕ}
+    → a ≡ readIn s at n 8 → b ≡ readIn s at n 20 → c ≡ readIn s at n 32 → d ≡ readIn s at n 44 → e ≡ readIn s at n 56 → f ≡ readIn s at n 68
+    → a + b + c + d + e + f ≡ sum (λ t. hourOf s (at + 12 * t) .outside) 6
+unfolding sum
+six-read s at n l ea eb ec ed ee ef =
+    let there : (t : ℕ) → t < 6 → readIn s at n (12 * t + 8) ≡ hourOf s (at + 12 * t) .outside
+    = λ t m. read-part 4 n at (12 * t + 8) s (omega arith) ∙ ap (bigEndian 4 s) (omega arith) in
+    omega (
+      arith,
+      ea ∙ there 0 (omega arith),
+      eb ∙ there 1 (omega arith),
+      ec ∙ there 2 (omega arith),
+      ed ∙ there 3 (omega arith),
+      ee ∙ there 4 (omega arith),
+      ef ∙ there 5 (omega arith),
+    )
+
+-- From the place of a day's hour 17 on they are the day's evening.
+pub evening-there : (s : List ℕ) (h : Header) (p day : ℕ) {start at : ℕ} → start ≡ hourAt h p 0 → at ≡ start + 204 + 288 * day
+    → sum (λ t. hourOf s (at + 12 * t) .outside) 6 ≡ evening (monthUnder h s .producer p .outsideUse) day
+evening-there s h p day {start} {at} e q =
+    sum-same _ _ {n = 6} refl
+    (λ t l. let same : at + 12 * t ≡ hourAt h p (24 * day + (17 + t)) = omega (arith, hour-there h p (24 * day + (17 + t)) e) in
+    ap (λ (x : ℕ). hourOf s x .outside) same)

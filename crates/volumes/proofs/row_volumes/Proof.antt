@@ -1,0 +1,85 @@
+use borrow.Author.Needs.{needs}
+use native.Mathlib.Omega.{arith}
+use mathlib.Core.Path.{_≡_}
+use mathlib.Core.Logic.{⊎-elim}
+use Prim.Native.Nat.{_-_, _≤_, zero-le}
+use Rattle.rules.specs.Sheet.{monthUnder}
+use Rattle.rules.specs.Cut.{supportVolume, bilateralVolume}
+use Rattle.volumes.proofs.Turns.{Counted, counted-fits, counted-none, counted-own, counted-other}
+use Rattle.volumes.proofs.row_volumes.Statement.{statement}
+use Rattle.volumes.proofs.row_volumes.Tie as tie
+
+abbrev Inv-loop : tie.InvT-loop
+Inv-loop s h of₀ j₀ of j = Counted (monthUnder h s) j of × (j ≤ h .rows)
+
+abbrev μ-loop : tie.MeasureT-loop
+μ-loop s h of₀ j₀ of j = h .rows - j
+
+loop-holds : tie.Need-loop-holds Inv-loop μ-loop
+loop-holds c = (counted-none _, zero-le)
+
+row-requires : tie.Need-row-requires Inv-loop μ-loop
+row-requires c κs = search needs
+
+cast-p : tie.Need-cast-p Inv-loop μ-loop
+cast-p c = search needs
+
+mul-v : tie.Need-mul-v Inv-loop μ-loop
+mul-v c = search needs
+
+array-copy-out-v : tie.Need-array-copy-out-v Inv-loop μ-loop
+array-copy-out-v c = omega arith
+
+with-row-requires : tie.Need-with-row-requires Inv-loop μ-loop
+with-row-requires c κs = counted-fits (c .before .before .before .before .before .before .before .loop .inv .0) (omega arith) _ (omega arith)
+
+mul-of : tie.Need-mul-of Inv-loop μ-loop
+mul-of c = search needs
+
+array-set-from-of : tie.Need-array-set-from-of Inv-loop μ-loop
+array-set-from-of c = omega arith
+
+add-j : tie.Need-add-j Inv-loop μ-loop
+add-j c = omega arith
+
+loop-less : tie.Need-loop-less Inv-loop μ-loop
+loop-less c = omega arith
+
+loop-again : tie.Need-loop-again Inv-loop μ-loop
+loop-again c =
+    let l = c .before .before .before .before .before .loop in
+    let er = c .before .before .row .ensures in (
+      ⊎-elim
+          (λ w. rw (w .4, w .3 .ensures) (counted-own _ _ er (omega arith) _ (l .inv .0) (w .0 .taken)))
+          (λ w. rw (w .1) (counted-other _ _ er (omega arith) _ (l .inv .0) (w .0 .left)))
+          (c .if2 .came),
+      omega arith,
+    )
+
+returns : tie.Need-returns Inv-loop μ-loop
+unfolding supportVolume bilateralVolume
+returns c =
+    let l = c .before .before .loop in
+    let a = c .before .before .before .before in
+    let end : l .j ≡ a .args .h .rows = omega arith in
+    let all = rw end at (l .inv .0) in
+    ((all .six, all .each), counted-fits all (omega arith))
+
+pub row-volumes-spec : {M : Type 1} → statement M
+row-volumes-spec =
+    tie.close
+    (tie.spec
+    Inv-loop
+    μ-loop
+    loop-holds
+    row-requires
+    cast-p
+    mul-v
+    array-copy-out-v
+    with-row-requires
+    mul-of
+    array-set-from-of
+    add-j
+    loop-less
+    loop-again
+    returns)
