@@ -17,7 +17,7 @@ use Rattle.rules.specs.Limits.{HeaderLimits}
 use Rattle.rules.specs.Cut.{ownVolume, supportVolume, bilateralVolume, summedCapacity, excess, leftToCut}
 use Rattle.laws.proofs.Range.{sum-none, any-start, any-fold}
 use Rattle.volumes.specs.declared.Volumes.{Volumes}
-use Rattle.volumes.specs.Volumes.{volumesOf}
+use Rattle.volumes.specs.Volumes.{volumesOf, noVolumes}
 use Rattle.terms.specs.declared.Terms.{Terms}
 use Rattle.terms.specs.Terms.{termsAt, noTerms, zeroTerms, withTerms, termsOf, highHours, Known}
 
@@ -25,6 +25,12 @@ pub summed-is : (m : Month) (p : ℕ) (v : Volumes) (d : ℕ) → v ≡ volumesO
     → v .support + v .bilateral + d ≡ summedCapacity m p
 unfolding summedCapacity
 summed-is m p v d e q = rw (e, q)
+
+-- An array with the volumes of six producers, which fit.
+abbrev pub VolumesKnown : Month → List Volumes → Type 0
+VolumesKnown m vs =
+    ((length vs ≡ 6) × ((p : ℕ) → p < 6 → getD vs p noVolumes ≡ volumesOf m p))
+    × ((p : ℕ) → p < 6 → (getD vs p noVolumes .support ≤ 1095216660225) × (getD vs p noVolumes .bilateral ≤ 1095216660225))
 
 -- Before the first row all of the excess is left.
 pub left-first : (m : Month) (p : ℕ) → leftToCut m p 0 ≡ summedCapacity m p - m .producer p .ownNeeds - m .producer p .attested

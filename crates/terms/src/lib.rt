@@ -89,7 +89,15 @@ fn k4_of(sums: Sums) -> u64
 }
 
 // k1 to k10 of producer p, whose figures begin at a place.
-fn ks_of(s: &[u8], h: Header, p: u8, at: usize, v: Volumes, sums: Sums, control: Control) -> [u64; 10]
+fn ks_of(
+    s: &[u8],
+    h: Header,
+    p: u8,
+    at: usize,
+    v: Volumes,
+    sums: Sums,
+    control: Control,
+) -> [u64; 10]
     requires { ⌜ (h .days ≤ 31) × (at ≡ producerAt h p) × (at ≤ 20000000) ⌝ }
     requires { ⌜ (v ≡ volumesOf (monthUnder h (now s)) p) × (v .support ≤ 1095216660225) ⌝ }
     requires { ⌜ (sums ≡ sumsOf h (monthUnder h (now s) .producer p) (summedCapacity (monthUnder h (now s)) p))

@@ -5,27 +5,26 @@ use Prim.Native.Nat.{_-_, _≤_, _<_, zero-le}
 use native.Mathlib.Nat.{le-trans}
 use lib.ListN.{length}
 use Rattle.rules.specs.Sheet.{sheetLength, monthUnder}
-use Rattle.rules.specs.ControlHours.{controlCount}
 use Rattle.laws.proofs.Sheet.{hours-inside}
 use Rattle.terms.specs.Terms.{withTerms, termsOf, highHours}
-use Rattle.terms.proofs.Cuts.{Filled, filled-none, filled-more}
+use Rattle.terms.proofs.Cuts.{VolumesKnown, Filled, filled-none, filled-more}
 use Rattle.terms.proofs.all_terms.Statement.{statement}
 use Rattle.terms.proofs.all_terms.Tie as tie
 
 abbrev Inv-loop : tie.InvT-loop
-Inv-loop s h of₀ high₀ count n p₀ of high p =
+Inv-loop s h of₀ high₀ volumes n p₀ of high p =
     Filled (monthUnder h s) p of high
     × (p ≤ n)
-    × (count ≡ controlCount h)
+    × VolumesKnown (monthUnder h s) volumes
     × (n ≡ withTerms h s)
     × (n ≤ 6)
     × (0 < n → (h .days ≤ 31) × (n ≤ h .producers) × (sheetLength h ≤ length s))
 
 abbrev μ-loop : tie.MeasureT-loop
-μ-loop s h of₀ high₀ count n p₀ of high p = n - p
+μ-loop s h of₀ high₀ volumes n p₀ of high p = n - p
 
-control-count-requires : tie.Need-control-count-requires Inv-loop μ-loop
-control-count-requires c κs = search needs
+row-volumes-requires : tie.Need-row-volumes-requires Inv-loop μ-loop
+row-volumes-requires c κs = search needs
 
 with-terms-requires : tie.Need-with-terms-requires Inv-loop μ-loop
 with-terms-requires c κs = search needs
@@ -33,16 +32,26 @@ with-terms-requires c κs = search needs
 loop-holds : tie.Need-loop-holds Inv-loop μ-loop
 loop-holds c =
     let n = c .with-terms .ensures in
-    (filled-none _, zero-le, c .before .control-count .ensures, n .0, n .1, n .2)
+    (filled-none _, zero-le, c .before .row-volumes .ensures, n .0, n .1, n .2)
 
 cast-i : tie.Need-cast-i Inv-loop μ-loop
 cast-i c = search needs
 
+mul-v : tie.Need-mul-v Inv-loop μ-loop
+mul-v c = search needs
+
+array-copy-out-v : tie.Need-array-copy-out-v Inv-loop μ-loop
+array-copy-out-v c = omega arith
+
 found-of-requires : tie.Need-found-of-requires Inv-loop μ-loop
 found-of-requires c κs =
-    let inv = c .before .loop .inv in
+    let inv = c .before .before .loop .inv in
     let some = inv .5 (omega arith) in
-    (some .0, le-trans (hours-inside (c .before .before .before .before .before .args .h) _ (omega (arith, some .1))) (some .2), inv .2)
+    let p : c .before .before .loop .p < 6 = omega arith in
+    let h = c .before .before .before .before .before .before .args .h in (
+      (some .0, le-trans (hours-inside h (c .before .before .loop .p) (omega (arith, some .1))) (some .2)),
+      (inv .2 .0 .1 _ p, inv .2 .1 _ p .0, inv .2 .1 _ p .1),
+    )
 
 mul-of : tie.Need-mul-of Inv-loop μ-loop
 mul-of c = search needs
@@ -58,7 +67,7 @@ loop-less c = omega arith
 
 loop-again : tie.Need-loop-again Inv-loop μ-loop
 loop-again c =
-    let inv = c .before .before .before .before .loop .inv in
+    let inv = c .before .before .before .before .before .loop .inv in
     let f = c .before .before .found-of .ensures in
     (filled-more _ _ _ _ (inv .0) (omega arith) (f .0) (f .1), omega arith, inv .2, inv .3, inv .4, inv .5)
 
@@ -76,10 +85,12 @@ all-terms-spec =
     (tie.spec
     Inv-loop
     μ-loop
-    control-count-requires
+    row-volumes-requires
     with-terms-requires
     loop-holds
     cast-i
+    mul-v
+    array-copy-out-v
     found-of-requires
     mul-of
     array-set-from-of

@@ -62,16 +62,20 @@ ks-of-requires c κs =
     let a = c .before .before .before .before .before .before .before .before .before .before in
     let m = monthUnder (a .args .h) (a .args .s .now) in
     let at = c .before .before .before .before .before .before .before .before .producer-at .ensures in
-    let d = c .before .before .before .before .before .word .ensures ∙ ap (λ (x : ℕ). bigEndian 4 (a .args .s .now) (x + 4)) (at .0) in
-    let v = c .before .before .before .before .before .before .before .row-volumes .ensures in
-    let sums = c .hour-sums .ensures in (
-      (a .pre .0, at .0, at .1),
+    let d = c .before .before .before .before .before .before .word .ensures ∙ ap (λ (x : ℕ). bigEndian 4 (a .args .s .now) (x + 4)) (at .0) in
+    let v = a .pre .1 in
+    let sums = c .before .hour-sums .ensures in
+    let control = c .control-hours .ensures in (
+      (a .pre .0 .0, at .0, at .1),
       (
-        (v .0, v .1 .0),
+        (v .0, v .1),
         (
-          sums .0 ∙ sums-inside (a .args .h) (a .args .s .now) (a .args .p) _ (a .pre .1)
-              ∙ ap (sumsOf (a .args .h) (m .producer (a .args .p))) (summed-is m (a .args .p) _ _ (v .0) d),
-          (sums .1 .1, rw (a .pre .2) (sums .1 .2), a .pre .2),
+          (
+            sums .0 ∙ sums-inside (a .args .h) (a .args .s .now) (a .args .p) _ (a .pre .0 .1)
+                ∙ ap (sumsOf (a .args .h) (m .producer (a .args .p))) (summed-is m (a .args .p) _ _ (v .0) d),
+            sums .1 .1,
+          ),
+          (control .0 ∙ control-inside (a .args .h) (a .args .s .now) (a .args .p) (a .pre .0 .1), control .1),
         ),
       ),
     )
@@ -81,19 +85,19 @@ returns c =
     let a = c .before .before .before .before .before .before .before .before .before .before .before in
     let m = monthUnder (a .args .h) (a .args .s .now) in
     let at = c .before .before .before .before .before .before .before .before .before .producer-at .ensures .0 in
-    let d = c .before .before .before .before .before .before .word .ensures ∙ ap (λ (x : ℕ). bigEndian 4 (a .args .s .now) (x + 4)) at in
-    let own = c .before .before .before .before .before .word2 .ensures ∙ ap (λ (x : ℕ). bigEndian 4 (a .args .s .now) (x + 8)) at in
-    let attested = c .before .before .before .word3 .ensures ∙ ap (λ (x : ℕ). bigEndian 4 (a .args .s .now) x) at in (
+    let d = c .before .before .before .before .before .before .before .word .ensures ∙ ap (λ (x : ℕ). bigEndian 4 (a .args .s .now) (x + 4)) at in
+    let own = c .before .before .before .before .before .before .word2 .ensures ∙ ap (λ (x : ℕ). bigEndian 4 (a .args .s .now) (x + 8)) at in
+    let attested = c .before .before .before .before .word3 .ensures ∙ ap (λ (x : ℕ). bigEndian 4 (a .args .s .now) x) at in (
       rw (
-        c .before .before .less2 .ensures,
-        c .before .before .before .before .less .ensures,
-        summed-is m (a .args .p) _ _ (c .before .before .before .before .before .before .before .before .row-volumes .ensures .0) d,
+        c .before .before .before .less2 .ensures,
+        c .before .before .before .before .before .less .ensures,
+        summed-is m (a .args .p) _ _ (a .pre .1 .0) d,
         own,
         attested,
         c .ks-of .ensures,
         left-first,
       ),
-      ap (λ (x : Sums). x .high) (c .before .hour-sums .ensures .0 ∙ sums-inside (a .args .h) (a .args .s .now) (a .args .p) _ (a .pre .1)),
+      ap (λ (x : Sums). x .high) (c .before .before .hour-sums .ensures .0 ∙ sums-inside (a .args .h) (a .args .s .now) (a .args .p) _ (a .pre .0 .1)),
     )
 
 pub found-of-spec : {M : Type 1} → statement M
