@@ -65,11 +65,11 @@ pub fn result_length(h: Header) -> usize
     21 + 16 * (h.rows as usize) + 25 * (h.consumers as usize)
 }
 
-// Row j.
-pub fn row(s: &[u8], h: Header, j: u8) -> Row
-    ensures { λ r. ⌜ r ≡ rowOf (now (s .entry)) (rowAt h j) ⌝ }
+// A row near the sheet's end: a byte past the end counts as 0.
+fn row_near_end(s: &[u8], at: usize) -> Row
+    requires { ⌜ at ≤ 20002550 ⌝ }
+    ensures { λ r. ⌜ r ≡ rowOf (now (s .entry)) at ⌝ }
 {
-    let at = row_at(h, j);
     Row {
         producer: byte(s, at),
         consumer: byte(s, at + 1),
@@ -78,11 +78,29 @@ pub fn row(s: &[u8], h: Header, j: u8) -> Row
     }
 }
 
-// Consumer c.
-pub fn consumer(s: &[u8], h: Header, c: u8) -> Consumer
-    ensures { λ r. ⌜ r ≡ consumerOf (now (s .entry)) (consumerAt h c) ⌝ }
+// Row j. One part of the sheet is lent for its four figures, so that each of them is one load.
+pub fn row(s: &[u8], h: Header, j: u8) -> Row
+    ensures { λ r. ⌜ r ≡ rowOf (now (s .entry)) (rowAt h j) ⌝ }
 {
-    let at = consumer_at(h, c);
+    let at = row_at(h, j);
+    let row_end = at + 10;
+    if s.len() < row_end {
+        return row_near_end(s, at);
+    }
+    let part = &s[at..row_end];
+    Row {
+        producer: byte(part, 0),
+        consumer: byte(part, 1),
+        volume: word(part, 2),
+        price: word(part, 6),
+    }
+}
+
+// A consumer near the sheet's end: a byte past the end counts as 0.
+fn consumer_near_end(s: &[u8], at: usize) -> Consumer
+    requires { ⌜ at ≤ 20006375 ⌝ }
+    ensures { λ r. ⌜ r ≡ consumerOf (now (s .entry)) at ⌝ }
+{
     Consumer {
         contract: word(s, at),
         peak: word(s, at + 4),
@@ -90,5 +108,25 @@ pub fn consumer(s: &[u8], h: Header, c: u8) -> Consumer
         grid: byte(s, at + 9),
         z: byte(s, at + 10),
         price: word(s, at + 11),
+    }
+}
+
+// Consumer c. One part of the sheet is lent for its six figures, so that each of them is one load.
+pub fn consumer(s: &[u8], h: Header, c: u8) -> Consumer
+    ensures { λ r. ⌜ r ≡ consumerOf (now (s .entry)) (consumerAt h c) ⌝ }
+{
+    let at = consumer_at(h, c);
+    let consumer_end = at + 15;
+    if s.len() < consumer_end {
+        return consumer_near_end(s, at);
+    }
+    let part = &s[at..consumer_end];
+    Consumer {
+        contract: word(part, 0),
+        peak: word(part, 4),
+        supplier: byte(part, 8),
+        grid: byte(part, 9),
+        z: byte(part, 10),
+        price: word(part, 11),
     }
 }

@@ -1,3 +1,8 @@
+use native.Mathlib.Omega.{arith}
+use mathlib.Core.Path.{ap, _∙_}
+use Prim.Native.Nat.{_+_, _-_}
+use Rattle.rules.specs.Sheet.{rowOf}
+use Rattle.sheet.proofs.Parts.{row-in-part}
 use borrow.Author.Needs.{needs}
 use Rattle.sheet.proofs.row.Statement.{statement}
 use Rattle.sheet.proofs.row.Tie as tie
@@ -5,40 +10,56 @@ use Rattle.sheet.proofs.row.Tie as tie
 row-at-requires : tie.Need-row-at-requires
 row-at-requires c κs = search needs
 
+add-row-end : tie.Need-add-row-end
+add-row-end c = search needs
+
+row-near-end-requires : tie.Need-row-near-end-requires
+row-near-end-requires c κs = search needs
+
+returns : tie.Need-returns
+returns c = rw (c .row-near-end .ensures, c .before .before .row-at .ensures .0)
+
+sub-part : tie.Need-sub-part
+sub-part c = search needs
+
+part-part-start : tie.Need-part-part-start
+part-part-start c = search needs
+
+part-part-end : tie.Need-part-part-end
+part-part-end c = search needs
+
 byte-requires : tie.Need-byte-requires
 byte-requires c κs = search needs
-
-add-byte : tie.Need-add-byte
-add-byte c = search needs
 
 byte-requires-2 : tie.Need-byte-requires-2
 byte-requires-2 c κs = search needs
 
-add-word : tie.Need-add-word
-add-word c = search needs
-
 word-requires : tie.Need-word-requires
 word-requires c κs = search needs
-
-add-word-2 : tie.Need-add-word-2
-add-word-2 c = search needs
 
 word-requires-2 : tie.Need-word-requires-2
 word-requires-2 c κs = search needs
 
-returns : tie.Need-returns
-returns c = rw (c .before .before .before .byte .ensures, c .before .before .byte2 .ensures, c .before .word .ensures, c .word2 .ensures, c .before .before .before .before .row-at .ensures .0)
+returns-2 : tie.Need-returns-2
+returns-2 c =
+    let place = c .before .before .before .before .before .before .row-at in
+    let s = c .before .before .before .before .before .before .before .before .args .s .now in
+    rw (c .before .before .before .byte .ensures, c .before .before .byte2 .ensures, c .before .word .ensures, c .word2 .ensures)
+    (row-in-part s (place .result) (place .result + 10 - place .result) (omega arith) ∙ ap (rowOf s) (place .ensures .0))
 
 pub row-spec : {M : Type 1} → statement M
 row-spec =
     tie.close
     (tie.spec
     row-at-requires
+    add-row-end
+    row-near-end-requires
+    returns
+    sub-part
+    part-part-start
+    part-part-end
     byte-requires
-    add-byte
     byte-requires-2
-    add-word
     word-requires
-    add-word-2
     word-requires-2
-    returns)
+    returns-2)

@@ -1,0 +1,32 @@
+-- A record is read from the part of the sheet that holds it. Assumes nothing.
+use mathlib.Core.Path.{_≡_}
+use mathlib.Core.List.{List}
+use Prim.Native.Nat.{ℕ, _≤_}
+use native.Mathlib.Nat.{add-zero}
+use native.Mathlib.Omega.{arith}
+use lib.ListN.{take, drop}
+use Rattle.rules.specs.Sheet.{rowWidth, consumerWidth, rowOf, consumerOf}
+use Rattle.laws.proofs.Fields.{read-part}
+
+module _ (s : List ℕ) (at n : ℕ) where
+  pub row-in-part : rowWidth ≤ n → rowOf (take n (drop at s)) 0 ≡ rowOf s at
+  row-in-part wide =
+      rw (
+        read-part 1 n at 0 s (omega arith),
+        read-part 1 n at 1 s (omega arith),
+        read-part 4 n at 2 s (omega arith),
+        read-part 4 n at 6 s (omega arith),
+        add-zero,
+      )
+
+  pub consumer-in-part : consumerWidth ≤ n → consumerOf (take n (drop at s)) 0 ≡ consumerOf s at
+  consumer-in-part wide =
+      rw (
+        read-part 4 n at 0 s (omega arith),
+        read-part 4 n at 4 s (omega arith),
+        read-part 1 n at 8 s (omega arith),
+        read-part 1 n at 9 s (omega arith),
+        read-part 1 n at 10 s (omega arith),
+        read-part 4 n at 11 s (omega arith),
+        add-zero,
+      )
