@@ -1,21 +1,17 @@
 -- What an hour adds to a producer's sums, as a loop over the hours meets it. Assumes nothing.
-use mathlib.Core.Path.{_≡_, sym, ap, _∙_}
-use mathlib.Core.Bool.{Bool, _||_, or-false}
+use mathlib.Core.Path.{_≡_, sym}
 use mathlib.Core.List.{List}
-use Prim.Native.Nat.{ℕ, _+_, _-_, _*_, _≤_, min}
+use Prim.Native.Nat.{ℕ, _+_, _-_, _≤_, min}
 use native.Mathlib.Nat.{add-zero}
 use native.Mathlib.Omega.{arith}
 use lib.ListN.{take, drop}
 use Rattle.rules.specs.Fields.{bigEndian}
 use Rattle.laws.proofs.Fields.{read-part}
-use Rattle.laws.proofs.Range.{any-append}
-use Rattle.rules.specs.Range.{any}
 use Rattle.rules.specs.declared.Header.{Header}
 use Rattle.rules.specs.declared.Hour.{Hour}
 use Rattle.rules.specs.Month.{Producer}
 use Rattle.rules.specs.Sheet.{hourAt, hourOf, monthUnder}
 use Rattle.rules.specs.Coefficients.{asked, met}
-use Rattle.rules.specs.Refusals.{oneOf, tooHigh, highHour}
 use Rattle.hours.specs.declared.K4.{K4}
 use Rattle.hours.specs.Sums.{K4Before}
 
@@ -39,16 +35,6 @@ module _ (s : List ℕ) (h : Header) (p i : ℕ) {x : Hour} (is : x ≡ hourOf s
   unfolding met
   met-there S r = rw (r, is)
 
-  pub high-there : {b : Bool} → b ≡ (tooHigh (x .working) || (tooHigh (x .possible) || tooHigh (x .outside)))
-      → b ≡ highHour (monthUnder h s .producer p) i
-  unfolding highHour oneOf
-  high-there f = f ∙ rw (is, or-false)
-
 -- The sums of the hours before one number are those before another name of it.
 pub k4-same : (p : Producer) (S : ℕ) {k : K4} {m n : ℕ} → m ≡ n → K4Before p S m k → K4Before p S n k
 k4-same p S e x = rw (sym e) x
-
--- A test over the hours of one day more.
-pub day-more : (f : ℕ → Bool) (d : ℕ) {found b : Bool} → found ≡ any f (24 * d) → b ≡ any (λ i. f (24 * d + i)) 24
-    → (found || b) ≡ any f (24 * (d + 1))
-day-more f d e q = let next : 24 * (d + 1) ≡ 24 * d + 24 = omega arith in rw (e, q, next) (sym (any-append f (24 * d) 24))

@@ -1,18 +1,16 @@
--- The sums of one producer's hours, as the structs that carry them.
+-- k4's sums over one producer's hours, as the struct that carries them.
 use mathlib.Core.Path.{_≡_}
-use mathlib.Core.Bool.{false, cond}
+use mathlib.Core.Bool.{cond}
 use mathlib.Core.List.{List}
 use Prim.Native.Nat.{ℕ, _+_, _*_, _≤_}
 use lib.ListN.{length}
 use lib.Dec.{ltb}
 use Rattle.rules.specs.declared.Header.{Header}
-use Rattle.rules.specs.Range.{sum, any}
+use Rattle.rules.specs.Range.{sum}
 use Rattle.rules.specs.Month.{Producer, hours}
 use Rattle.rules.specs.Sheet.{hourAt, hoursWidth, monthUnder}
 use Rattle.rules.specs.Coefficients.{asked, met}
-use Rattle.rules.specs.Refusals.{highHour}
 use Rattle.hours.specs.declared.K4.{K4}
-use Rattle.hours.specs.declared.Sums.{Sums}
 
 -- The sums of the hours before hour n, and that they fit.
 abbrev pub K4Before : Producer → ℕ → ℕ → K4 → Type 0
@@ -22,14 +20,11 @@ K4Before p S n k =
     × (k .asked ≤ 4294967295 * n)
     × (k .met ≤ 4294967295 * n)
 
--- The sum of m, the sum of what is met of it, and whether a power is above the ceiling.
-abbrev pub sumsOf : Header → Producer → ℕ → Sums
-sumsOf h p S =
-    record { asked = sum (asked p S) (hours h); met = sum (met p S) (hours h); high = any (highHour p) (hours h) }
+-- The sum of m, and the sum of what is met of it.
+abbrev pub k4Of : Header → Producer → ℕ → K4
+k4Of h p S = record { asked = sum (asked p S) (hours h); met = sum (met p S) (hours h) }
 
 -- Of producer p in a sheet; nothing where the sheet ends before the producer's hours do.
-unfoldable pub sumsIn : Header → List ℕ → ℕ → ℕ → Sums
-sumsIn h s p S =
-    cond (ltb (length s) (hourAt h p 0 + hoursWidth h))
-    (record { asked = 0; met = 0; high = false })
-    (sumsOf h (monthUnder h s .producer p) S)
+unfoldable pub k4In : Header → List ℕ → ℕ → ℕ → K4
+k4In h s p S =
+    cond (ltb (length s) (hourAt h p 0 + hoursWidth h)) (record { asked = 0; met = 0 }) (k4Of h (monthUnder h s .producer p) S)

@@ -1,28 +1,19 @@
-// What the hours of a sheet say of one producer: k4's sums, and whether a power is above the ceiling.
+// k4's sums over a producer's hours.
 ghost use mathlib.Core.Path.{_≡_};
 ghost use Prim.Native.Nat.{_+_, _*_, _<_, _≤_, min};
 ghost use lib.ListN.{length};
 ghost use Rattle.rules.specs.Month.{hours};
 ghost use Rattle.rules.specs.Sheet.{hourAt, hoursWidth, hourOf, monthUnder};
-ghost use Rattle.hours.specs.Sums.{K4Before, sumsIn};
+ghost use Rattle.hours.specs.Sums.{K4Before, k4In};
 use fields::word;
 use rules::Header;
 use rules::Hour;
 use sheet::hours_at;
 
-mod high;
-
-// Over the hours: m and what was met of it (k4), in tenths of a megawatt; and whether a power is above the ceiling (number 9).
-pub struct Sums {
+// Over the hours: m and what was met of it (k4), in tenths of a megawatt.
+pub struct K4 {
     pub asked: u64,
     pub met: u64,
-    pub high: bool,
-}
-
-// The same without number 9.
-struct K4 {
-    asked: u64,
-    met: u64,
 }
 
 // Hour i of producer p. One part of the sheet is lent for its three powers, so that each of them is one load.
@@ -82,8 +73,8 @@ fn with_six(k: K4, s: &[u8], h: Header, p: u8, i: usize, summed: u64) -> K4
     with_three(a, s, h, p, i + 3, summed)
 }
 
-// k4's sums over producer p's hours.
-fn k4_sums(s: &[u8], h: Header, p: u8, summed: u64) -> K4
+// k4's sums over the hours of producer p, which are in the sheet.
+fn through_hours(s: &[u8], h: Header, p: u8, summed: u64) -> K4
     requires { ⌜ hourAt h p 0 + hoursWidth h ≤ length (now s) ⌝ }
     ensures { λ r. ⌜ K4Before (monthUnder h (now (s .entry)) .producer p) summed (hours h) r ⌝ }
 {
@@ -96,23 +87,13 @@ fn k4_sums(s: &[u8], h: Header, p: u8, summed: u64) -> K4
     k
 }
 
-// The sums over producer p's hours, for a summed capacity S. Where the sheet ends before the producer's hours do there are none.
-pub fn hour_sums(s: &[u8], h: Header, p: u8, summed: u64) -> Sums
-    ensures { λ r. ⌜ r ≡ sumsIn h (now (s .entry)) p summed ⌝ }
+// k4's sums of producer p, for a summed capacity S. Where the sheet ends before the producer's hours do there are none.
+pub fn k4_sums(s: &[u8], h: Header, p: u8, summed: u64) -> K4
+    ensures { λ r. ⌜ r ≡ k4In h (now (s .entry)) p summed ⌝ }
     ensures fits { λ r. ⌜ (r .asked ≤ 4294967295 * hours h) × (r .met ≤ 4294967295 * hours h) ⌝ }
 {
     if s.len() < hours_at(h, p) + 288 * (h.days as usize) {
-        return Sums {
-            asked: 0,
-            met: 0,
-            high: false,
-        };
+        return K4 { asked: 0, met: 0 };
     }
-    let k = k4_sums(s, h, p, summed);
-    let high = high::high_hours(s, h, p);
-    Sums {
-        asked: k.asked,
-        met: k.met,
-        high,
-    }
+    through_hours(s, h, p, summed)
 }

@@ -11,9 +11,10 @@ ghost use Rattle.rules.specs.Bands.{bandOf, thousandths};
 ghost use Rattle.rules.specs.Cut.{summedCapacity};
 ghost use Rattle.rules.specs.Coefficients.{share, lessPenalty, coefficients};
 ghost use Rattle.volumes.specs.Volumes.{volumesOf};
-ghost use Rattle.hours.specs.Sums.{sumsOf};
+ghost use Rattle.hours.specs.Sums.{k4Of};
 ghost use Rattle.control.specs.Control.{controlOf};
 ghost use Rattle.terms.specs.Terms.{termsAt, termsOf, noTerms, withTerms, highHours};
+use ceiling::high_hours;
 use coefficients::bids;
 use coefficients::overuse;
 use coefficients::penalty;
@@ -25,8 +26,8 @@ use fields::word;
 use figures::ONE;
 use figures::less;
 use figures::nearest;
-use hours::Sums;
-use hours::hour_sums;
+use hours::K4;
+use hours::k4_sums;
 use rules::Header;
 use sheet::producer_at;
 use sheet::sheet_length;
@@ -78,7 +79,7 @@ fn k1_of(counted: u64, count: u64, deductible: u32, support: u64) -> u64
 }
 
 // k4.
-fn k4_of(sums: Sums) -> u64
+fn k4_of(sums: K4) -> u64
     requires { ⌜ sums .met ≤ 3195455667480 ⌝ }
     ensures { λ r. ⌜ r ≡ share (sums .met) (sums .asked) ⌝ }
 {
@@ -89,18 +90,10 @@ fn k4_of(sums: Sums) -> u64
 }
 
 // k1 to k10 of producer p, whose figures begin at a place.
-fn ks_of(
-    s: &[u8],
-    h: Header,
-    p: u8,
-    at: usize,
-    v: Volumes,
-    sums: Sums,
-    control: Control,
-) -> [u64; 10]
+fn ks_of(s: &[u8], h: Header, p: u8, at: usize, v: Volumes, sums: K4, control: Control) -> [u64; 10]
     requires { ⌜ (h .days ≤ 31) × (at ≡ producerAt h p) × (at ≤ 20000000) ⌝ }
     requires { ⌜ (v ≡ volumesOf (monthUnder h (now s)) p) × (v .support ≤ 1095216660225) ⌝ }
-    requires { ⌜ (sums ≡ sumsOf h (monthUnder h (now s) .producer p) (summedCapacity (monthUnder h (now s)) p))
+    requires { ⌜ (sums ≡ k4Of h (monthUnder h (now s) .producer p) (summedCapacity (monthUnder h (now s)) p))
         × (sums .met ≤ 4294967295 * hours h) ⌝ }
     requires { ⌜ (control ≡ controlOf h (monthUnder h (now s) .producer p .outsideUse))
         × (control .counted ≤ 4294967295 * control .count) ⌝ }
@@ -132,14 +125,12 @@ fn found_of(s: &[u8], h: Header, p: u8, v: Volumes) -> Found
     let summed = v.support + v.bilateral + word(s, at + 4) as u64;
     let own = less(summed, word(s, at + 8) as u64);
     let excess = less(own, word(s, at) as u64);
-    let sums = hour_sums(s, h, p, summed);
+    let sums = k4_sums(s, h, p, summed);
     let control = control_hours(s, h, p);
     let ks = ks_of(s, h, p, at, v, sums, control);
     let terms = Terms { excess, ks };
-    Found {
-        terms,
-        high: sums.high,
-    }
+    let high = high_hours(s, h, p);
+    Found { terms, high }
 }
 
 // How many producers of a sheet have terms: at most six, and none in a month of more than 31 days or in a sheet that ends too soon.

@@ -5,40 +5,28 @@ use Rattle.laws.proofs.Range.{sum-fold}
 use Rattle.hours.proofs.Turns.{asked-there, met-there}
 use Rattle.hours.proofs.with_hour.Statement.{statement}
 use Rattle.hours.proofs.with_hour.Tie as tie
-use Rattle.hours.proofs.with_hour.Reads as reads
-use Rattle.hours.proofs.with_hour.Lts as lts
-use Rattle.hours.proofs.hour.Reads as hour-reads
-use Rattle.hours.proofs.smaller.Reads as smaller-reads
 
--- src/lib.rt:55:9
 hour-requires : tie.Need-hour-requires
 hour-requires c κs = search needs
 
--- src/lib.rt:56:29
 cast-smaller : tie.Need-cast-smaller
 cast-smaller c = search needs
 
--- src/lib.rt:56:9
 smaller-requires : tie.Need-smaller-requires
 smaller-requires c κs = search needs
 
--- src/lib.rt:57:26
 cast-smaller-2 : tie.Need-cast-smaller-2
 cast-smaller-2 c = search needs
 
--- src/lib.rt:57:9
 smaller-requires-2 : tie.Need-smaller-requires-2
 smaller-requires-2 c κs = search needs
 
--- src/lib.rt:59:16
 add-t10 : tie.Need-add-t10
 add-t10 c = omega arith
 
--- src/lib.rt:60:14
 add-t11 : tie.Need-add-t11
 add-t11 c = omega arith
 
--- src/lib.rt:50:1
 returns : tie.Need-returns
 returns c =
     let k = c .before .before .before .before .before .before .before .before .pre .1 in

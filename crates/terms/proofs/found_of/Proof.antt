@@ -3,9 +3,9 @@ use mathlib.Core.Path.{ap, _∙_}
 use Prim.Native.Nat.{ℕ, _+_}
 use Rattle.rules.specs.Fields.{bigEndian}
 use Rattle.rules.specs.Sheet.{monthUnder}
-use Rattle.hours.specs.declared.Sums.{Sums}
-use Rattle.hours.specs.Sums.{sumsOf}
-use Rattle.hours.proofs.Inside.{sums-inside}
+use Rattle.hours.specs.Sums.{k4Of}
+use Rattle.hours.proofs.Inside.{k4-inside}
+use Rattle.ceiling.proofs.Days.{high-inside}
 use Rattle.control.proofs.Inside.{control-inside}
 use Rattle.terms.proofs.Cuts.{summed-is, left-first}
 use borrow.Author.Needs.{needs}
@@ -51,8 +51,8 @@ cast-less-2 c = search needs
 less-requires-2 : tie.Need-less-requires-2
 less-requires-2 c κs = search needs
 
-hour-sums-requires : tie.Need-hour-sums-requires
-hour-sums-requires c κs = search needs
+k4-sums-requires : tie.Need-k4-sums-requires
+k4-sums-requires c κs = search needs
 
 control-hours-requires : tie.Need-control-hours-requires
 control-hours-requires c κs = search needs
@@ -64,15 +64,15 @@ ks-of-requires c κs =
     let at = c .before .before .before .before .before .before .before .before .producer-at .ensures in
     let d = c .before .before .before .before .before .before .word .ensures ∙ ap (λ (x : ℕ). bigEndian 4 (a .args .s .now) (x + 4)) (at .0) in
     let v = a .pre .1 in
-    let sums = c .before .hour-sums .ensures in
+    let sums = c .before .k4-sums .ensures in
     let control = c .control-hours .ensures in (
       (a .pre .0 .0, at .0, at .1),
       (
         (v .0, v .1),
         (
           (
-            sums .0 ∙ sums-inside (a .args .h) (a .args .s .now) (a .args .p) _ (a .pre .0 .1)
-                ∙ ap (sumsOf (a .args .h) (m .producer (a .args .p))) (summed-is m (a .args .p) _ _ (v .0) d),
+            sums .0 ∙ k4-inside (a .args .h) (a .args .s .now) (a .args .p) _ (a .pre .0 .1)
+                ∙ ap (k4Of (a .args .h) (m .producer (a .args .p))) (summed-is m (a .args .p) _ _ (v .0) d),
             sums .1 .1,
           ),
           (control .0 ∙ control-inside (a .args .h) (a .args .s .now) (a .args .p) (a .pre .0 .1), control .1),
@@ -80,24 +80,27 @@ ks-of-requires c κs =
       ),
     )
 
+high-hours-requires : tie.Need-high-hours-requires
+high-hours-requires c κs = search needs
+
 returns : tie.Need-returns
 returns c =
-    let a = c .before .before .before .before .before .before .before .before .before .before .before in
+    let a = c .before .before .before .before .before .before .before .before .before .before .before .before in
     let m = monthUnder (a .args .h) (a .args .s .now) in
-    let at = c .before .before .before .before .before .before .before .before .before .producer-at .ensures .0 in
-    let d = c .before .before .before .before .before .before .before .word .ensures ∙ ap (λ (x : ℕ). bigEndian 4 (a .args .s .now) (x + 4)) at in
-    let own = c .before .before .before .before .before .before .word2 .ensures ∙ ap (λ (x : ℕ). bigEndian 4 (a .args .s .now) (x + 8)) at in
-    let attested = c .before .before .before .before .word3 .ensures ∙ ap (λ (x : ℕ). bigEndian 4 (a .args .s .now) x) at in (
+    let at = c .before .before .before .before .before .before .before .before .before .before .producer-at .ensures .0 in
+    let d = c .before .before .before .before .before .before .before .before .word .ensures ∙ ap (λ (x : ℕ). bigEndian 4 (a .args .s .now) (x + 4)) at in
+    let own = c .before .before .before .before .before .before .before .word2 .ensures ∙ ap (λ (x : ℕ). bigEndian 4 (a .args .s .now) (x + 8)) at in
+    let attested = c .before .before .before .before .before .word3 .ensures ∙ ap (λ (x : ℕ). bigEndian 4 (a .args .s .now) x) at in (
       rw (
-        c .before .before .before .less2 .ensures,
-        c .before .before .before .before .before .less .ensures,
+        c .before .before .before .before .less2 .ensures,
+        c .before .before .before .before .before .before .less .ensures,
         summed-is m (a .args .p) _ _ (a .pre .1 .0) d,
         own,
         attested,
-        c .ks-of .ensures,
+        c .before .ks-of .ensures,
         left-first,
       ),
-      ap (λ (x : Sums). x .high) (c .before .before .hour-sums .ensures .0 ∙ sums-inside (a .args .h) (a .args .s .now) (a .args .p) _ (a .pre .0 .1)),
+      c .high-hours .ensures ∙ high-inside (a .args .h) (a .args .s .now) (a .args .p) (a .pre .0 .1),
     )
 
 pub found-of-spec : {M : Type 1} → statement M
@@ -117,7 +120,8 @@ found-of-spec =
     word-requires-3
     cast-less-2
     less-requires-2
-    hour-sums-requires
+    k4-sums-requires
     control-hours-requires
     ks-of-requires
+    high-hours-requires
     returns)

@@ -1,12 +1,9 @@
 use native.Mathlib.Omega.{arith}
 use mathlib.Core.Path.{_≡_}
 use Prim.Native.Nat.{ℕ, _-_, _%_, _<_, _≤_, zero-le}
-use Rattle.hours.proofs.Bits.{Low, or-last, low-more}
-use Rattle.hours.proofs.high.bits_on.Statement.{statement}
-use Rattle.hours.proofs.high.bits_on.Tie as tie
-use Rattle.hours.proofs.high.bits_on.Reads as reads
-use Rattle.hours.proofs.high.bits_on.Lts as lts
-use Rattle.hours.proofs.high.turned.Reads as turned-reads
+use Rattle.ceiling.proofs.Bits.{Low, or-last, low-more}
+use Rattle.ceiling.proofs.bits_on.Statement.{statement}
+use Rattle.ceiling.proofs.bits_on.Tie as tie
 
 abbrev Inv-loop : tie.InvT-loop
 Inv-loop s at bits₀ i₀ bits i = (bits % 65536 ≡ 0 → (k : ℕ) → k < i → Low s at k) × (i ≤ 72)
@@ -14,31 +11,24 @@ Inv-loop s at bits₀ i₀ bits i = (bits % 65536 ≡ 0 → (k : ℕ) → k < i 
 abbrev μ-loop : tie.MeasureT-loop
 μ-loop s at bits₀ i₀ bits i = 72 - i
 
--- src/high.rt:40:5
 loop-holds : tie.Need-loop-holds Inv-loop μ-loop
 loop-holds c = (λ e k l. absurd (omega arith), zero-le)
 
--- src/high.rt:41:38
 mul-turned : tie.Need-mul-turned Inv-loop μ-loop
 mul-turned c = omega arith
 
--- src/high.rt:41:33
 add-turned : tie.Need-add-turned Inv-loop μ-loop
 add-turned c = omega (arith, c .before .before .before .pre .1)
 
--- src/high.rt:41:23
 turned-requires : tie.Need-turned-requires Inv-loop μ-loop
 turned-requires c κs = omega (arith, c .before .before .before .pre .0)
 
--- src/high.rt:42:9
 add-i : tie.Need-add-i Inv-loop μ-loop
 add-i c = omega arith
 
--- src/high.rt:40:5
 loop-less : tie.Need-loop-less Inv-loop μ-loop
 loop-less c = omega arith
 
--- src/high.rt:40:5
 loop-again : tie.Need-loop-again Inv-loop μ-loop
 loop-again c = (
   λ e.
@@ -47,7 +37,6 @@ loop-again c = (
   omega arith,
 )
 
--- src/high.rt:34:1
 returns : tie.Need-returns Inv-loop μ-loop
 returns c e i l = c .before .loop .inv .0 e i (omega arith)
 

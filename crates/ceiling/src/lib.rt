@@ -1,15 +1,15 @@
 // Number 9 of a producer's hours. A power with two zero bytes at its front is below the ceiling, so a day whose powers all have them is
 // passed without looking at each power; the hours of another day are looked at one by one.
 ghost use mathlib.Core.Path.{_≡_};
-ghost use mathlib.Core.Bool.{_||_};
 ghost use Prim.Native.Nat.{ℕ, _+_, _*_, _%_, _<_, _≤_};
 ghost use lib.ListN.{length};
 ghost use Rattle.rules.specs.Range.{any};
 ghost use Rattle.rules.specs.Month.{hours};
 ghost use Rattle.rules.specs.Fields.{bigEndian};
-ghost use Rattle.rules.specs.Sheet.{hourAt, hoursWidth, monthUnder};
-ghost use Rattle.rules.specs.Refusals.{tooHigh, highHour};
-use crate::hour;
+ghost use Rattle.rules.specs.Sheet.{hourAt, hoursWidth, hourOf, monthUnder};
+ghost use Rattle.rules.specs.Refusals.{highHour};
+ghost use Rattle.ceiling.specs.High.{highOne, highIn};
+use fields::word;
 use limits::too_high;
 use rules::Header;
 use rules::Hour;
@@ -44,22 +44,34 @@ fn bits_on(s: &[u8], at: usize) -> u32
     bits
 }
 
+// The hour that begins at a place.
+fn hour(s: &[u8], at: usize) -> Hour
+    requires { ⌜ at ≤ 30000000 ⌝ }
+    ensures { λ r. ⌜ r ≡ hourOf (now (s .entry)) at ⌝ }
+{
+    Hour {
+        working: word(s, at),
+        possible: word(s, at + 4),
+        outside: word(s, at + 8),
+    }
+}
+
 // 9, of an hour.
 fn high(x: Hour) -> bool
-    ensures { λ r. ⌜ r ≡ (tooHigh (x .working) || (tooHigh (x .possible) || tooHigh (x .outside))) ⌝ }
+    ensures { λ r. ⌜ r ≡ highOne x ⌝ }
 {
     too_high(x.working) | (too_high(x.possible) | too_high(x.outside))
 }
 
-// 9, of the 24 hours from an hour on, one by one.
-fn one_by_one(s: &[u8], h: Header, p: u8, first: usize) -> bool
-    requires { ⌜ (hourAt h p 0 + hoursWidth h ≤ length (now s)) × (first + 24 ≤ hours h) ⌝ }
-    ensures { λ r. ⌜ r ≡ any (λ i. highHour (monthUnder h (now (s .entry)) .producer p) (first + i)) 24 ⌝ }
+// 9, of the 24 hours of a day that begins at a place, one by one.
+fn one_by_one(s: &[u8], at: usize) -> bool
+    requires { ⌜ at ≤ 20080000 ⌝ }
+    ensures { λ r. ⌜ r ≡ any (λ i. highOne (hourOf (now (s .entry)) (at + 12 * i))) 24 ⌝ }
 {
     let mut found = false;
     let mut i: usize = 0;
     while i < 24 {
-        found = found | high(hour(s, h, p, first + i));
+        found = found | high(hour(s, at + 12 * i));
         i += 1;
     }
     found
@@ -74,12 +86,12 @@ fn high_on(s: &[u8], h: Header, p: u8, day: usize) -> bool
     if bits_on(s, at) % 65536 == 0 {
         false
     } else {
-        one_by_one(s, h, p, 24 * day)
+        one_by_one(s, at)
     }
 }
 
-// 9, of producer p's hours.
-pub(crate) fn high_hours(s: &[u8], h: Header, p: u8) -> bool
+// Day by day.
+fn by_day(s: &[u8], h: Header, p: u8) -> bool
     requires { ⌜ hourAt h p 0 + hoursWidth h ≤ length (now s) ⌝ }
     ensures { λ r. ⌜ r ≡ any (highHour (monthUnder h (now (s .entry)) .producer p)) (hours h) ⌝ }
 {
@@ -90,4 +102,14 @@ pub(crate) fn high_hours(s: &[u8], h: Header, p: u8) -> bool
         day += 1;
     }
     found
+}
+
+// 9, of producer p's hours. Where the sheet ends before the producer's hours do there are none.
+pub fn high_hours(s: &[u8], h: Header, p: u8) -> bool
+    ensures { λ r. ⌜ r ≡ highIn h (now (s .entry)) p ⌝ }
+{
+    if s.len() < hours_at(h, p) + 288 * (h.days as usize) {
+        return false;
+    }
+    by_day(s, h, p)
 }

@@ -1,24 +1,19 @@
+use Rattle.ceiling.specs.High.{highOne}
 use borrow.Author.Needs.{needs}
-use Rattle.hours.proofs.high.high.Statement.{statement}
-use Rattle.hours.proofs.high.high.Tie as tie
-use Rattle.hours.proofs.high.high.Reads as reads
-use Rattle.hours.proofs.high.high.Lts as lts
-use Rattle.limits.proofs.too_high.Reads as too-high-reads
+use Rattle.ceiling.proofs.high.Statement.{statement}
+use Rattle.ceiling.proofs.high.Tie as tie
 
--- src/high.rt:51:5
 too-high-requires : tie.Need-too-high-requires
 too-high-requires c κs = search needs
 
--- src/high.rt:51:28
 too-high-requires-2 : tie.Need-too-high-requires-2
 too-high-requires-2 c κs = search needs
 
--- src/high.rt:51:51
 too-high-requires-3 : tie.Need-too-high-requires-3
 too-high-requires-3 c κs = search needs
 
--- src/high.rt:48:1
 returns : tie.Need-returns
+unfolding highOne
 returns c = rw (c .before .before .too-high .ensures, c .before .too-high2 .ensures, c .too-high3 .ensures)
 
 pub high-spec : {M : Type 1} → statement M

@@ -1,83 +1,62 @@
 use native.Mathlib.Omega.{arith}
 use native.Mathlib.Nat.{add-zero}
 use Rattle.rules.specs.Fields.{bigEndian}
-use Rattle.hours.proofs.Bits.{front-none}
+use Rattle.ceiling.proofs.Bits.{front-none}
 use borrow.Author.Needs.{needs}
-use Rattle.hours.proofs.high.turned.Statement.{statement}
-use Rattle.hours.proofs.high.turned.Tie as tie
-use Rattle.hours.proofs.high.turned.Reads as reads
-use Rattle.hours.proofs.high.turned.Lts as lts
-use Rattle.hours.proofs.high.wide.Reads as wide-reads
+use Rattle.ceiling.proofs.turned.Statement.{statement}
+use Rattle.ceiling.proofs.turned.Tie as tie
 
--- src/high.rt:30:10
 shared-slice-read-wide : tie.Need-shared-slice-read-wide
 shared-slice-read-wide c = search needs
 
--- src/high.rt:30:5
 wide-requires : tie.Need-wide-requires
 wide-requires c κs = search needs
 
--- src/high.rt:30:26
 add-wide : tie.Need-add-wide
 add-wide c = search needs
 
--- src/high.rt:30:24
 shared-slice-read-wide-2 : tie.Need-shared-slice-read-wide-2
 shared-slice-read-wide-2 c = search needs
 
--- src/high.rt:30:19
 wide-requires-2 : tie.Need-wide-requires-2
 wide-requires-2 c κs = search needs
 
--- src/high.rt:30:19
 mul-result : tie.Need-mul-result
 mul-result c = search needs
 
--- src/high.rt:30:5
 add-result : tie.Need-add-result
 add-result c = search needs
 
--- src/high.rt:30:50
 add-wide-2 : tie.Need-add-wide-2
 add-wide-2 c = search needs
 
--- src/high.rt:30:48
 shared-slice-read-wide-3 : tie.Need-shared-slice-read-wide-3
 shared-slice-read-wide-3 c = search needs
 
--- src/high.rt:30:43
 wide-requires-3 : tie.Need-wide-requires-3
 wide-requires-3 c κs = search needs
 
--- src/high.rt:30:43
 mul-result-2 : tie.Need-mul-result-2
 mul-result-2 c = search needs
 
--- src/high.rt:30:5
 add-result-2 : tie.Need-add-result-2
 add-result-2 c = search needs
 
--- src/high.rt:30:76
 add-wide-3 : tie.Need-add-wide-3
 add-wide-3 c = search needs
 
--- src/high.rt:30:74
 shared-slice-read-wide-4 : tie.Need-shared-slice-read-wide-4
 shared-slice-read-wide-4 c = search needs
 
--- src/high.rt:30:69
 wide-requires-4 : tie.Need-wide-requires-4
 wide-requires-4 c κs = search needs
 
--- src/high.rt:30:69
 mul-result-3 : tie.Need-mul-result-3
 mul-result-3 c = search needs
 
--- src/high.rt:30:5
 add-result-3 : tie.Need-add-result-3
 add-result-3 c = search needs
 
--- src/high.rt:26:1
 returns : tie.Need-returns
 unfolding bigEndian
 returns c e =
