@@ -1,18 +1,16 @@
 -- Number 9 of an hour and of a day, as the loops meet them. Assumes nothing.
 use mathlib.Core.Path.{_≡_, sym, _∙_}
-use mathlib.Core.Bool.{Bool, false, _||_, or-false}
+use mathlib.Core.Bool.{Bool, _||_, or-false}
 use mathlib.Core.List.{List}
-use Prim.Native.Nat.{ℕ, _+_, _*_, _≤_, _<_}
+use Prim.Native.Nat.{ℕ, _+_, _*_}
 use native.Mathlib.Omega.{arith}
-use lib.ListN.{length}
-use borrow.Author.Tests.{lt-ltb, le-ltb}
 use Rattle.rules.specs.declared.Header.{Header}
 use Rattle.rules.specs.Range.{any}
-use Rattle.rules.specs.Month.{hours}
-use Rattle.rules.specs.Sheet.{hourAt, hoursWidth, hourOf, monthUnder}
+use Rattle.rules.specs.Sheet.{hourAt, hourOf, monthUnder}
 use Rattle.rules.specs.Refusals.{oneOf, highHour}
-use Rattle.laws.proofs.Range.{any-append}
-use Rattle.ceiling.specs.High.{highOne, highIn}
+use Rattle.laws.proofs.Range.{any-append, any-same}
+use Rattle.sheet.proofs.Hours.{hour-there}
+use Rattle.ceiling.specs.High.{highOne}
 
 -- An hour of a producer, where it stands in the sheet.
 pub high-there : (s : List ℕ) (h : Header) (p i : ℕ) {at : ℕ} → hourAt h p i ≡ at → highOne (hourOf s at) ≡ highHour (monthUnder h s .producer p) i
@@ -24,12 +22,7 @@ pub day-more : (f : ℕ → Bool) (d : ℕ) {found b : Bool} → found ≡ any f
     → (found || b) ≡ any f (24 * (d + 1))
 day-more f d e q = let next : 24 * (d + 1) ≡ 24 * d + 24 = omega arith in rw (e, q, next) (sym (any-append f (24 * d) 24))
 
--- A producer whose hours are in the sheet, and one whose hours are not.
-pub high-inside : (h : Header) (s : List ℕ) (p : ℕ) → hourAt h p 0 + hoursWidth h ≤ length s
-    → highIn h s p ≡ any (highHour (monthUnder h s .producer p)) (hours h)
-unfolding highIn
-high-inside h s p l = rw (le-ltb (length s) (hourAt h p 0 + hoursWidth h) l)
-
-pub high-short : (h : Header) (s : List ℕ) (p : ℕ) → length s < hourAt h p 0 + hoursWidth h → highIn h s p ≡ false
-unfolding highIn
-high-short h s p l = rw (lt-ltb (length s) (hourAt h p 0 + hoursWidth h) l)
+-- The 24 hours of a day, where they stand in the sheet.
+pub day-there : (s : List ℕ) (h : Header) (p d : ℕ) {start : ℕ} {b : Bool} → start ≡ hourAt h p 0
+    → b ≡ any (λ i. highOne (hourOf s (start + 288 * d + 12 * i))) 24 → b ≡ any (λ i. highHour (monthUnder h s .producer p) (24 * d + i)) 24
+day-there s h p d e q = q ∙ any-same _ _ 24 (λ j l. high-there s h p (24 * d + j) (hour-there h p (24 * d + j) e ∙ omega arith))

@@ -6,9 +6,9 @@ ghost use lib.ListN.{length};
 ghost use Rattle.rules.specs.Range.{any};
 ghost use Rattle.rules.specs.Month.{hours};
 ghost use Rattle.rules.specs.Fields.{bigEndian};
-ghost use Rattle.rules.specs.Sheet.{hourAt, hoursWidth, hourOf, monthUnder};
+ghost use Rattle.rules.specs.Sheet.{hourOf, monthUnder};
 ghost use Rattle.rules.specs.Refusals.{highHour};
-ghost use Rattle.ceiling.specs.High.{highOne, highIn};
+ghost use Rattle.ceiling.specs.High.{highOne};
 use fields::word;
 use limits::too_high;
 use rules::Header;
@@ -77,39 +77,29 @@ fn one_by_one(s: &[u8], at: usize) -> bool
     found
 }
 
-// 9, of the hours of a day.
-fn high_on(s: &[u8], h: Header, p: u8, day: usize) -> bool
-    requires { ⌜ (hourAt h p 0 + hoursWidth h ≤ length (now s)) × (day < h .days) ⌝ }
+// 9, of the hours of a day. A day that is not whole in the sheet is looked at hour by hour.
+fn high_on(s: &[u8], h: Header, p: u8, day: u8) -> bool
     ensures { λ r. ⌜ r ≡ any (λ i. highHour (monthUnder h (now (s .entry)) .producer p) (24 * day + i)) 24 ⌝ }
 {
-    let at = hours_at(h, p) + 288 * day;
-    if bits_on(s, at) % 65536 == 0 {
-        false
-    } else {
-        one_by_one(s, at)
+    let at = hours_at(h, p) + 288 * (day as usize);
+    if s.len() < at + 288 {
+        return one_by_one(s, at);
     }
+    if bits_on(s, at) % 65536 == 0 {
+        return false;
+    }
+    one_by_one(s, at)
 }
 
-// Day by day.
-fn by_day(s: &[u8], h: Header, p: u8) -> bool
-    requires { ⌜ hourAt h p 0 + hoursWidth h ≤ length (now s) ⌝ }
+// 9, of producer p's hours.
+pub fn high_hours(s: &[u8], h: Header, p: u8) -> bool
     ensures { λ r. ⌜ r ≡ any (highHour (monthUnder h (now (s .entry)) .producer p)) (hours h) ⌝ }
 {
     let mut found = false;
-    let mut day: usize = 0;
-    while day < h.days as usize {
+    let mut day: u8 = 0;
+    while day < h.days {
         found = found | high_on(s, h, p, day);
         day += 1;
     }
     found
-}
-
-// 9, of producer p's hours. Where the sheet ends before the producer's hours do there are none.
-pub fn high_hours(s: &[u8], h: Header, p: u8) -> bool
-    ensures { λ r. ⌜ r ≡ highIn h (now (s .entry)) p ⌝ }
-{
-    if s.len() < hours_at(h, p) + 288 * (h.days as usize) {
-        return false;
-    }
-    by_day(s, h, p)
 }

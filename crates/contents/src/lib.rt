@@ -1,8 +1,9 @@
 // Numbers 8 to 12: the figures of producers, rows and consumers. Each record is read once.
 ghost use mathlib.Core.Path.{_≡_};
 ghost use Rattle.rules.specs.Sheet.{monthUnder};
-ghost use Rattle.rules.specs.Refusals.{badShare, firstOf};
-ghost use Rattle.contents.specs.Contents.{producerTests, rowTests, consumerTests, highOwn, figureTestsWith};
+ghost use Rattle.rules.specs.Refusals.{badShare, highProducer, figureTests, firstOf};
+ghost use Rattle.contents.specs.Contents.{producerTests, rowTests, consumerTests};
+use ceiling::high_hours;
 use fields::half;
 use fields::word;
 use form::first;
@@ -50,12 +51,13 @@ fn bad_share(s: &[u8], h: Header, p: u8) -> bool
     (hours < half(s, at + 12)) | ((hours < half(s, at + 14)) | ((hours < half(s, at + 16)) | given))
 }
 
-// 9, of producer p, but for its hours.
+// 9, of producer p.
 fn high_producer(s: &[u8], h: Header, p: u8) -> bool
-    ensures { λ r. ⌜ r ≡ highOwn (monthUnder h (now (s .entry)) .producer p) ⌝ }
+    ensures { λ r. ⌜ r ≡ highProducer h (monthUnder h (now (s .entry)) .producer p) ⌝ }
 {
     let at = producer_at(h, p);
-    too_high(word(s, at)) | (too_high(word(s, at + 4)) | too_high(word(s, at + 8)))
+    let own = too_high(word(s, at + 8)) | high_hours(s, h, p);
+    too_high(word(s, at)) | (too_high(word(s, at + 4)) | own)
 }
 
 fn producer_tests(s: &[u8], h: Header) -> ProducerTests
@@ -110,10 +112,9 @@ fn consumer_tests(s: &[u8], h: Header) -> ConsumerTests
     ConsumerTests { high, dear, factor }
 }
 
-// The first of the numbers 8 to 12 that applies to the figures that a header puts into a sheet, 0 where none does. Whether number 9 applies to
-// an hour is found by whoever passes over the hours.
-pub fn figure_refusal(s: &[u8], h: Header, hours: bool) -> u8
-    ensures { λ r. ⌜ r ≡ firstOf (figureTestsWith (monthUnder h (now (s .entry))) hours) ⌝ }
+// The first of the numbers 8 to 12 that applies to the figures that a header puts into a sheet, 0 where none does.
+pub fn figure_refusal(s: &[u8], h: Header) -> u8
+    ensures { λ r. ⌜ r ≡ firstOf (figureTests (monthUnder h (now (s .entry)))) ⌝ }
 {
     let p = producer_tests(s, h);
     let r = row_tests(s, h);
@@ -121,6 +122,6 @@ pub fn figure_refusal(s: &[u8], h: Header, hours: bool) -> u8
     let twelve = first(12, c.factor, 0);
     let eleven = first(11, r.dear | c.dear, twelve);
     let ten = first(10, r.reference, eleven);
-    let nine = first(9, (p.high | hours) | (r.high | c.high), ten);
+    let nine = first(9, p.high | (r.high | c.high), ten);
     first(8, p.share, nine)
 }

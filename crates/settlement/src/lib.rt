@@ -2,16 +2,15 @@
 ghost use mathlib.Core.Path.{_≡_};
 ghost use lib.ListN.{length};
 ghost use Prim.Native.Nat.{_+_};
+ghost use Rattle.rules.specs.Refusals.{refusal};
 ghost use Rattle.rules.specs.Outcome.{outcome, bufferAfter, hoursStretch, within};
 ghost use Rattle.settlement.specs.Said.{said, inC};
-ghost use Rattle.settlement.specs.Early.{earlyRefusal};
 use contents::figure_refusal;
 use form::form_refusal;
 use form::producer_hours;
 use form::room_refusal;
 use sheet::header;
 use sheet::result_length;
-use terms::all_terms;
 
 mod consumers;
 mod result;
@@ -23,15 +22,20 @@ pub enum Answer {
     Written(usize),
 }
 
-// The first of the numbers 1 to 7 that applies to a sheet with a result buffer of so many bytes, 0 where none does.
-fn early_refusal(s: &[u8], room: usize) -> u8
-    ensures { λ r. ⌜ r ≡ earlyRefusal (now (s .entry)) room ⌝ }
+// The first number that applies to a sheet with a result buffer of so many bytes, 0 where none does.
+fn refusal_of(s: &[u8], room: usize) -> u8
+    ensures { λ r. ⌜ r ≡ refusal (now (s .entry)) room ⌝ }
 {
     let form = form_refusal(s);
     if form != 0 {
         return form;
     }
-    room_refusal(header(s), room)
+    let h = header(s);
+    let seven = room_refusal(h, room);
+    if seven != 0 {
+        return seven;
+    }
+    figure_refusal(s, h)
 }
 
 // Settles a sheet into a result buffer. A refusal changes no byte of the buffer; bytes past a result keep what they had.
@@ -39,17 +43,12 @@ pub fn settle(sheet: &[u8], result: &mut [u8]) -> Answer
     ensures { λ r. ⌜ said r ≡ outcome (now (sheet .entry)) (length (now (result .entry))) ⌝ }
     ensures buffer { λ r. ⌜ now (result .exit) ≡ bufferAfter (now (sheet .entry)) (now (result .entry)) ⌝ }
 {
-    let early = early_refusal(sheet, result.len());
-    if early != 0 {
-        return Answer::Refused(early);
-    }
-    let h = header(sheet);
-    let terms = all_terms(sheet, h);
-    let number = figure_refusal(sheet, h, terms.high);
+    let number = refusal_of(sheet, result.len());
     if number != 0 {
         return Answer::Refused(number);
     }
-    result::write_result(sheet, h, terms, result);
+    let h = header(sheet);
+    result::write_result(sheet, h, result);
     Answer::Written(result_length(h))
 }
 

@@ -1,6 +1,6 @@
 -- A producer's terms before the first row, and the array that holds them. Assumes nothing.
 use mathlib.Core.Path.{_≡_, refl, sym, ap, _∙_}
-use mathlib.Core.Bool.{Bool, true, false, cond, _||_}
+use mathlib.Core.Bool.{Bool, true, false, cond}
 use mathlib.Core.List.{List}
 use Prim.Native.Nat.{ℕ, _+_, _-_, _≤_, _<_, min}
 use native.Mathlib.Omega.{arith}
@@ -9,17 +9,15 @@ use lib.Dec.{eqb, ltb}
 use lib.ListN.{length, getD, set, replicate, length-set, length-replicate, getD-replicate}
 use lib.Seq.{getD-set-same, getD-set-other}
 use Rattle.rules.specs.declared.Header.{Header}
-use Rattle.rules.specs.Range.{any}
-use Rattle.rules.specs.Month.{Month, hours}
+use Rattle.rules.specs.Month.{Month}
 use Rattle.rules.specs.Sheet.{sheetLength, monthUnder}
-use Rattle.rules.specs.Refusals.{highHour}
 use Rattle.rules.specs.Limits.{HeaderLimits}
 use Rattle.rules.specs.Cut.{ownVolume, supportVolume, bilateralVolume, summedCapacity, excess, leftToCut}
-use Rattle.laws.proofs.Range.{sum-none, any-start, any-fold}
+use Rattle.laws.proofs.Range.{sum-none}
 use Rattle.volumes.specs.declared.Volumes.{Volumes}
 use Rattle.volumes.specs.Volumes.{volumesOf, noVolumes}
 use Rattle.terms.specs.declared.Terms.{Terms}
-use Rattle.terms.specs.Terms.{termsAt, noTerms, zeroTerms, withTerms, termsOf, highHours, Known}
+use Rattle.terms.specs.Terms.{termsAt, noTerms, zeroTerms, withTerms, termsOf, Known}
 
 pub summed-is : (m : Month) (p : ℕ) (v : Volumes) (d : ℕ) → v ≡ volumesOf m p → d ≡ m .producer p .deductible
     → v .support + v .bilateral + d ≡ summedCapacity m p
@@ -37,24 +35,19 @@ pub left-first : (m : Month) (p : ℕ) → leftToCut m p 0 ≡ summedCapacity m 
 unfolding leftToCut excess
 left-first m p = omega (arith, sum-none (ownVolume m p))
 
--- An array of six with the terms of the first n producers, and number 9 of their hours.
+-- An array of six with the terms of the first n producers.
 abbrev upTo : Month → ℕ → ℕ → Terms
 upTo m n p = cond (ltb p n) (termsAt m p 0) zeroTerms
 
-abbrev highUpTo : Month → ℕ → Bool
-highUpTo m n = any (λ p. any (highHour (m .producer p)) (hours (m .header))) n
-
-pub record Filled (m : Month) (n : ℕ) (ts : List Terms) (high : Bool) : Type 0 where
+pub record Filled (m : Month) (n : ℕ) (ts : List Terms) : Type 0 where
   pub six : length ts ≡ 6
   pub each : (p : ℕ) → p < 6 → getD ts p noTerms ≡ upTo m n p
-  pub found : high ≡ highUpTo m n
 
-pub filled-none : (m : Month) → Filled m 0 (replicate 6 zeroTerms) false
+pub filled-none : (m : Month) → Filled m 0 (replicate 6 zeroTerms)
 filled-none m =
     record {
       six = length-replicate {A = Terms} 6 zeroTerms;
       each = λ p l. getD-replicate {A = Terms} 6 p zeroTerms noTerms l ∙ sym (rw (le-ltb p 0 (omega arith)));
-      found = sym (any-start _);
     }
 
 -- Of a producer other than p it is the same whether p is below n or p + 1.
@@ -65,10 +58,8 @@ below-more q p n = go (ltb q p) refl
     go true e = lt-ltb q (p + 1) (omega (arith, ltb-true q p e))
     go false e = le-ltb q (p + 1) (omega (arith, ltb-false q p e, n))
 
-pub filled-more : (m : Month) (p : ℕ) (ts : List Terms) (t : Terms) {high found : Bool} → Filled m p ts high → p < 6 → t ≡ termsAt m p 0
-    → found ≡ any (highHour (m .producer p)) (hours (m .header)) → Filled m (p + 1) (set ts p t) (high || found)
-filled-more m p ts t k l e f =
-    record { six = length-set ts p t ∙ k .six; each = λ q b. go q b (eqb q p) refl; found = any-fold _ _ (k .found) f }
+pub filled-more : (m : Month) (p : ℕ) (ts : List Terms) (t : Terms) → Filled m p ts → p < 6 → t ≡ termsAt m p 0 → Filled m (p + 1) (set ts p t)
+filled-more m p ts t k l e = record { six = length-set ts p t ∙ k .six; each = λ q b. go q b (eqb q p) refl }
   where
     go : (q : ℕ) → q < 6 → (b : Bool) → eqb q p ≡ b → getD (set ts p t) q noTerms ≡ upTo m (p + 1) q
     go q b true same =
@@ -87,7 +78,3 @@ module _ (h : Header) (s : List ℕ) (w : HeaderLimits h) (whole : sheetLength h
   unfolding termsOf
   known-first ts six each =
       record { six = six; each = λ p l. each p (omega (arith, w .producers)) ∙ rw (all-have, lt-ltb p (h .producers) l) }
-
-  pub high-everywhere : highHours h s ≡ highUpTo (monthUnder h s) (h .producers)
-  unfolding highHours
-  high-everywhere = rw all-have

@@ -1,17 +1,15 @@
 -- What a producer's rows are settled by: what is left to cut of them, and k1 to k10.
 use Prim.Native.Nat.{ℕ, _<_, min}
 use mathlib.Core.Path.{_≡_}
-use mathlib.Core.Bool.{Bool, cond, _||_}
+use mathlib.Core.Bool.{cond, _||_}
 use mathlib.Core.List.{List, []}
 use lib.ListN.{length, getD, replicate}
 use lib.Dec.{ltb}
 use Rattle.rules.specs.declared.Header.{Header}
-use Rattle.rules.specs.Range.{any}
-use Rattle.rules.specs.Month.{Month, hours}
+use Rattle.rules.specs.Month.{Month}
 use Rattle.rules.specs.Sheet.{sheetLength, monthUnder}
 use Rattle.rules.specs.Cut.{leftToCut}
 use Rattle.rules.specs.Coefficients.{coefficients}
-use Rattle.rules.specs.Refusals.{highHour}
 use Rattle.terms.specs.declared.Terms.{Terms}
 
 -- Producer p when row j's turn comes. [Cut; Coefficients]
@@ -33,10 +31,6 @@ withTerms h s = cond (ltb 31 (h .days) || ltb (length s) (sheetLength h)) 0 (min
 -- Before the first row: the terms of producer p where there is one.
 unfoldable pub termsOf : Header → List ℕ → ℕ → Terms
 termsOf h s p = cond (ltb p (withTerms h s)) (termsAt (monthUnder h s) p 0) zeroTerms
-
--- Number 9, of the hours of the producers that have terms.
-unfoldable pub highHours : Header → List ℕ → Bool
-highHours h s = any (λ p. any (highHour (monthUnder h s .producer p)) (hours h)) (withTerms h s)
 
 -- The first n producers when row j's turn comes, in an array of six.
 pub record Known (m : Month) (j n : ℕ) (terms : List Terms) : Type 0 where

@@ -2,9 +2,7 @@
 ghost use mathlib.Core.Path.{_≡_};
 ghost use Prim.Native.Nat.{ℕ, _+_, _-_, _*_, _<_, _≤_};
 ghost use lib.ListN.{length, getD};
-ghost use Rattle.rules.specs.Range.{any};
 ghost use Rattle.rules.specs.Month.{hours};
-ghost use Rattle.rules.specs.Refusals.{highHour};
 ghost use Rattle.rules.specs.Sheet.{sheetLength, producerAt, hourAt, hoursWidth, monthUnder};
 ghost use Rattle.rules.specs.ControlHours.{average};
 ghost use Rattle.rules.specs.Bands.{bandOf, thousandths};
@@ -13,8 +11,7 @@ ghost use Rattle.rules.specs.Coefficients.{share, lessPenalty, coefficients};
 ghost use Rattle.volumes.specs.Volumes.{volumesOf};
 ghost use Rattle.hours.specs.Sums.{k4Of};
 ghost use Rattle.control.specs.Control.{controlOf};
-ghost use Rattle.terms.specs.Terms.{termsAt, termsOf, noTerms, withTerms, highHours};
-use ceiling::high_hours;
+ghost use Rattle.terms.specs.Terms.{termsAt, termsOf, noTerms, withTerms};
 use coefficients::bids;
 use coefficients::overuse;
 use coefficients::penalty;
@@ -38,18 +35,6 @@ use volumes::row_volumes;
 pub struct Terms {
     pub excess: u64,
     pub ks: [u64; 10],
-}
-
-// The terms of six producers, as many as a sheet may have, and whether a power in their hours is above the ceiling (number 9).
-pub struct AllTerms {
-    pub of: [Terms; 6],
-    pub high: bool,
-}
-
-// The same of one producer.
-struct Found {
-    terms: Terms,
-    high: bool,
 }
 
 // 1 - n × D / T.
@@ -114,12 +99,11 @@ fn ks_of(s: &[u8], h: Header, p: u8, at: usize, v: Volumes, sums: K4, control: C
     ]
 }
 
-// Producer p's excess and coefficients, before the first row, and number 9 of its hours.
-fn found_of(s: &[u8], h: Header, p: u8, v: Volumes) -> Found
+// Producer p's excess and coefficients, before the first row.
+fn terms_of(s: &[u8], h: Header, p: u8, v: Volumes) -> Terms
     requires { ⌜ (h .days ≤ 31) × (hourAt h p 0 + hoursWidth h ≤ length (now s)) ⌝ }
     requires { ⌜ (v ≡ volumesOf (monthUnder h (now s)) p) × (v .support ≤ 1095216660225) × (v .bilateral ≤ 1095216660225) ⌝ }
-    ensures { λ r. ⌜ (r .terms ≡ termsAt (monthUnder h (now (s .entry))) p 0)
-        × (r .high ≡ any (highHour (monthUnder h (now (s .entry)) .producer p)) (hours h)) ⌝ }
+    ensures { λ r. ⌜ r ≡ termsAt (monthUnder h (now (s .entry))) p 0 ⌝ }
 {
     let at = producer_at(h, p);
     let summed = v.support + v.bilateral + word(s, at + 4) as u64;
@@ -128,9 +112,7 @@ fn found_of(s: &[u8], h: Header, p: u8, v: Volumes) -> Found
     let sums = k4_sums(s, h, p, summed);
     let control = control_hours(s, h, p);
     let ks = ks_of(s, h, p, at, v, sums, control);
-    let terms = Terms { excess, ks };
-    let high = high_hours(s, h, p);
-    Found { terms, high }
+    Terms { excess, ks }
 }
 
 // How many producers of a sheet have terms: at most six, and none in a month of more than 31 days or in a sheet that ends too soon.
@@ -147,28 +129,23 @@ fn with_terms(s: &[u8], h: Header) -> u8
     }
 }
 
-// The excess and the coefficients of every producer, before the first row, and number 9 of their hours.
-pub fn all_terms(s: &[u8], h: Header) -> AllTerms
-    ensures { λ r. ⌜ (length (r .of) ≡ 6) × ((p : ℕ) → p < 6 → getD (r .of) p noTerms ≡ termsOf h (now (s .entry)) p) ⌝ }
-    ensures high { λ r. ⌜ r .high ≡ highHours h (now (s .entry)) ⌝ }
+// The excess and the coefficients of six producers, as many as a sheet may have, before the first row.
+pub fn all_terms(s: &[u8], h: Header) -> [Terms; 6]
+    ensures { λ r. ⌜ (length r ≡ 6) × ((p : ℕ) → p < 6 → getD r p noTerms ≡ termsOf h (now (s .entry)) p) ⌝ }
 {
     let none = Terms {
         excess: 0,
         ks: [0; 10],
     };
     let mut of = [none; 6];
-    let mut high = false;
     let volumes = row_volumes(s, h);
     let n = with_terms(s, h);
     let mut p: u8 = 0;
     while p < n {
         let i = p as usize;
         let v = volumes[i];
-        let found = found_of(s, h, p, v);
-        let t = found.terms;
-        of[i] = t;
-        high = high | found.high;
+        of[i] = terms_of(s, h, p, v);
         p += 1;
     }
-    AllTerms { of, high }
+    of
 }

@@ -1,30 +1,48 @@
-use native.Mathlib.Omega.{arith}
-use mathlib.Core.Path.{sym, _∙_}
-use Rattle.ceiling.proofs.Days.{high-short, high-inside}
 use borrow.Author.Needs.{needs}
+use native.Mathlib.Omega.{arith}
+use mathlib.Core.Path.{_≡_, sym}
+use Prim.Native.Nat.{_-_, _*_, _≤_, zero-le}
+use Rattle.laws.proofs.Range.{any-start, any-done}
+use Rattle.rules.specs.Range.{any}
+use Rattle.rules.specs.Sheet.{monthUnder}
+use Rattle.rules.specs.Refusals.{highHour}
+use Rattle.ceiling.proofs.Days.{day-more}
 use Rattle.ceiling.proofs.high_hours.Statement.{statement}
 use Rattle.ceiling.proofs.high_hours.Tie as tie
 
-hours-at-requires : tie.Need-hours-at-requires
-hours-at-requires c κs = search needs
+abbrev Inv-loop : tie.InvT-loop
+Inv-loop s h p found₀ day₀ found day = (found ≡ any (highHour (monthUnder h s .producer p)) (24 * day)) × (day ≤ h .days)
 
-cast-if1 : tie.Need-cast-if1
-cast-if1 c = search needs
+abbrev μ-loop : tie.MeasureT-loop
+μ-loop s h p found₀ day₀ found day = h .days - day
 
-mul-if1 : tie.Need-mul-if1
-mul-if1 c = search needs
+loop-holds : tie.Need-loop-holds Inv-loop μ-loop
+loop-holds c = (sym (any-start _), zero-le)
 
-add-if1 : tie.Need-add-if1
-add-if1 c = search needs
+high-on-requires : tie.Need-high-on-requires Inv-loop μ-loop
+high-on-requires c κs = search needs
 
-returns : tie.Need-returns
-returns c = sym (high-short _ _ _ (omega (arith, c .if1 .taken, c .before .before .hours-at .ensures .0)))
+add-day : tie.Need-add-day Inv-loop μ-loop
+add-day c = omega arith
 
-by-day-requires : tie.Need-by-day-requires
-by-day-requires c κs = search needs
+loop-less : tie.Need-loop-less Inv-loop μ-loop
+loop-less c = omega arith
 
-returns-2 : tie.Need-returns-2
-returns-2 c = c .by-day .ensures ∙ sym (high-inside _ _ _ (omega (arith, c .before .if1 .left, c .before .before .before .hours-at .ensures .0)))
+loop-again : tie.Need-loop-again Inv-loop μ-loop
+loop-again c = (day-more _ _ (c .before .before .before .loop .inv .0) (c .high-on .ensures), omega arith)
+
+returns : tie.Need-returns Inv-loop μ-loop
+returns c = any-done _ (omega arith) (omega arith) (c .before .before .loop .inv .0)
 
 pub high-hours-spec : {M : Type 1} → statement M
-high-hours-spec = tie.close (tie.spec hours-at-requires cast-if1 mul-if1 add-if1 returns by-day-requires returns-2)
+high-hours-spec =
+    tie.close
+    (tie.spec
+    Inv-loop
+    μ-loop
+    loop-holds
+    high-on-requires
+    add-day
+    loop-less
+    loop-again
+    returns)

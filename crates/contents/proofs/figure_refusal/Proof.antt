@@ -1,5 +1,4 @@
-use Rattle.rules.specs.Refusals.{oneOf, firstOf}
-use Rattle.contents.specs.Contents.{figureTestsWith}
+use Rattle.rules.specs.Refusals.{oneOf, firstOf, figureTests}
 use mathlib.Core.Bool.{or-false}
 use borrow.Author.Needs.{needs}
 use Rattle.contents.proofs.figure_refusal.Statement.{statement}
@@ -30,7 +29,7 @@ first-requires-5 : tie.Need-first-requires-5
 first-requires-5 c κs = search needs
 
 returns : tie.Need-returns
-unfolding firstOf figureTestsWith oneOf
+unfolding firstOf figureTests oneOf
 returns c =
     rw (
       c .first5 .ensures,

@@ -1,6 +1,5 @@
+use Rattle.rules.specs.Refusals.{oneOf, highProducer}
 use mathlib.Core.Bool.{or-false}
-use Rattle.rules.specs.Refusals.{oneOf}
-use Rattle.contents.specs.Contents.{highOwn}
 use borrow.Author.Needs.{needs}
 use Rattle.contents.proofs.high_producer.Statement.{statement}
 use Rattle.contents.proofs.high_producer.Tie as tie
@@ -8,14 +7,17 @@ use Rattle.contents.proofs.high_producer.Tie as tie
 producer-at-requires : tie.Need-producer-at-requires
 producer-at-requires c κs = search needs
 
+add-word : tie.Need-add-word
+add-word c = search needs
+
 word-requires : tie.Need-word-requires
 word-requires c κs = search needs
 
 too-high-requires : tie.Need-too-high-requires
 too-high-requires c κs = search needs
 
-add-word : tie.Need-add-word
-add-word c = search needs
+high-hours-requires : tie.Need-high-hours-requires
+high-hours-requires c κs = search needs
 
 word-requires-2 : tie.Need-word-requires-2
 word-requires-2 c κs = search needs
@@ -33,17 +35,18 @@ too-high-requires-3 : tie.Need-too-high-requires-3
 too-high-requires-3 c κs = search needs
 
 returns : tie.Need-returns
-unfolding highOwn oneOf
+unfolding highProducer oneOf
 returns c =
     rw (
       or-false,
-      c .before .before .before .before .too-high .ensures,
       c .before .before .too-high2 .ensures,
       c .too-high3 .ensures,
-      c .before .before .before .before .before .word .ensures,
+      c .before .before .before .before .before .too-high .ensures,
+      c .before .before .before .before .high-hours .ensures,
       c .before .before .before .word2 .ensures,
       c .before .word3 .ensures,
-      c .before .before .before .before .before .before .producer-at .ensures .0,
+      c .before .before .before .before .before .before .word .ensures,
+      c .before .before .before .before .before .before .before .producer-at .ensures .0,
     )
 
 pub high-producer-spec : {M : Type 1} → statement M
@@ -51,9 +54,10 @@ high-producer-spec =
     tie.close
     (tie.spec
     producer-at-requires
+    add-word
     word-requires
     too-high-requires
-    add-word
+    high-hours-requires
     word-requires-2
     too-high-requires-2
     add-word-2

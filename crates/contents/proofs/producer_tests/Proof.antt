@@ -5,15 +5,14 @@ use Prim.Native.Nat.{_-_, _≤_, zero-le}
 use Rattle.rules.specs.Range.{any}
 use Rattle.rules.specs.Sheet.{monthUnder}
 use Rattle.laws.proofs.Range.{any-start, any-fold, any-done}
-use Rattle.rules.specs.Refusals.{badShare}
-use Rattle.contents.specs.Contents.{highOwn}
+use Rattle.rules.specs.Refusals.{badShare, highProducer}
 use Rattle.contents.proofs.producer_tests.Statement.{statement}
 use Rattle.contents.proofs.producer_tests.Tie as tie
 
 abbrev Inv-loop : tie.InvT-loop
 Inv-loop s h share₀ high₀ p₀ share high p =
     (share ≡ any (λ i. badShare h (monthUnder h s .producer i)) p)
-    × (high ≡ any (λ i. highOwn (monthUnder h s .producer i)) p)
+    × (high ≡ any (λ i. highProducer h (monthUnder h s .producer i)) p)
     × (p ≤ h .producers)
 
 abbrev μ-loop : tie.MeasureT-loop

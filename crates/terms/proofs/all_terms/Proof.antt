@@ -6,14 +6,14 @@ use native.Mathlib.Nat.{le-trans}
 use lib.ListN.{length}
 use Rattle.rules.specs.Sheet.{sheetLength, monthUnder}
 use Rattle.laws.proofs.Sheet.{hours-inside}
-use Rattle.terms.specs.Terms.{withTerms, termsOf, highHours}
+use Rattle.terms.specs.Terms.{withTerms, termsOf}
 use Rattle.terms.proofs.Cuts.{VolumesKnown, Filled, filled-none, filled-more}
 use Rattle.terms.proofs.all_terms.Statement.{statement}
 use Rattle.terms.proofs.all_terms.Tie as tie
 
 abbrev Inv-loop : tie.InvT-loop
-Inv-loop s h of₀ high₀ volumes n p₀ of high p =
-    Filled (monthUnder h s) p of high
+Inv-loop s h of₀ volumes n p₀ of p =
+    Filled (monthUnder h s) p of
     × (p ≤ n)
     × VolumesKnown (monthUnder h s) volumes
     × (n ≡ withTerms h s)
@@ -21,7 +21,7 @@ Inv-loop s h of₀ high₀ volumes n p₀ of high p =
     × (0 < n → (h .days ≤ 31) × (n ≤ h .producers) × (sheetLength h ≤ length s))
 
 abbrev μ-loop : tie.MeasureT-loop
-μ-loop s h of₀ high₀ volumes n p₀ of high p = n - p
+μ-loop s h of₀ volumes n p₀ of p = n - p
 
 row-volumes-requires : tie.Need-row-volumes-requires Inv-loop μ-loop
 row-volumes-requires c κs = search needs
@@ -43,8 +43,8 @@ mul-v c = search needs
 array-copy-out-v : tie.Need-array-copy-out-v Inv-loop μ-loop
 array-copy-out-v c = omega arith
 
-found-of-requires : tie.Need-found-of-requires Inv-loop μ-loop
-found-of-requires c κs =
+terms-of-requires : tie.Need-terms-of-requires Inv-loop μ-loop
+terms-of-requires c κs =
     let inv = c .before .before .loop .inv in
     let some = inv .5 (omega arith) in
     let p : c .before .before .loop .p < 6 = omega arith in
@@ -67,17 +67,16 @@ loop-less c = omega arith
 
 loop-again : tie.Need-loop-again Inv-loop μ-loop
 loop-again c =
-    let inv = c .before .before .before .before .before .loop .inv in
-    let f = c .before .before .found-of .ensures in
-    (filled-more _ _ _ _ (inv .0) (omega arith) (f .0) (f .1), omega arith, inv .2, inv .3, inv .4, inv .5)
+    let inv = c .before .before .before .loop .inv in
+    (filled-more _ _ _ _ (inv .0) (omega arith) (c .terms-of .ensures), omega arith, inv .2, inv .3, inv .4, inv .5)
 
 returns : tie.Need-returns Inv-loop μ-loop
-unfolding termsOf highHours
+unfolding termsOf
 returns c =
     let inv = c .before .loop .inv in
     let end : c .before .loop .p ≡ withTerms (c .before .before .before .before .before .args .h) (c .before .before .before .before .before .args .s .now) = omega arith in
     let all = rw end at (inv .0) in
-    ((all .six, all .each), all .found)
+    (all .six, all .each)
 
 pub all-terms-spec : {M : Type 1} → statement M
 all-terms-spec =
@@ -91,7 +90,7 @@ all-terms-spec =
     cast-i
     mul-v
     array-copy-out-v
-    found-of-requires
+    terms-of-requires
     mul-of
     array-set-from-of
     add-p

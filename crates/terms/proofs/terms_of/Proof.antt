@@ -5,12 +5,11 @@ use Rattle.rules.specs.Fields.{bigEndian}
 use Rattle.rules.specs.Sheet.{monthUnder}
 use Rattle.hours.specs.Sums.{k4Of}
 use Rattle.hours.proofs.Inside.{k4-inside}
-use Rattle.ceiling.proofs.Days.{high-inside}
 use Rattle.control.proofs.Inside.{control-inside}
 use Rattle.terms.proofs.Cuts.{summed-is, left-first}
 use borrow.Author.Needs.{needs}
-use Rattle.terms.proofs.found_of.Statement.{statement}
-use Rattle.terms.proofs.found_of.Tie as tie
+use Rattle.terms.proofs.terms_of.Statement.{statement}
+use Rattle.terms.proofs.terms_of.Tie as tie
 
 producer-at-requires : tie.Need-producer-at-requires
 producer-at-requires c κs = search needs
@@ -80,31 +79,26 @@ ks-of-requires c κs =
       ),
     )
 
-high-hours-requires : tie.Need-high-hours-requires
-high-hours-requires c κs = search needs
-
 returns : tie.Need-returns
 returns c =
-    let a = c .before .before .before .before .before .before .before .before .before .before .before .before in
+    let a = c .before .before .before .before .before .before .before .before .before .before .before in
     let m = monthUnder (a .args .h) (a .args .s .now) in
-    let at = c .before .before .before .before .before .before .before .before .before .before .producer-at .ensures .0 in
-    let d = c .before .before .before .before .before .before .before .before .word .ensures ∙ ap (λ (x : ℕ). bigEndian 4 (a .args .s .now) (x + 4)) at in
-    let own = c .before .before .before .before .before .before .before .word2 .ensures ∙ ap (λ (x : ℕ). bigEndian 4 (a .args .s .now) (x + 8)) at in
-    let attested = c .before .before .before .before .before .word3 .ensures ∙ ap (λ (x : ℕ). bigEndian 4 (a .args .s .now) x) at in (
-      rw (
-        c .before .before .before .before .less2 .ensures,
-        c .before .before .before .before .before .before .less .ensures,
-        summed-is m (a .args .p) _ _ (a .pre .1 .0) d,
-        own,
-        attested,
-        c .before .ks-of .ensures,
-        left-first,
-      ),
-      c .high-hours .ensures ∙ high-inside (a .args .h) (a .args .s .now) (a .args .p) (a .pre .0 .1),
+    let at = c .before .before .before .before .before .before .before .before .before .producer-at .ensures .0 in
+    let d = c .before .before .before .before .before .before .before .word .ensures ∙ ap (λ (x : ℕ). bigEndian 4 (a .args .s .now) (x + 4)) at in
+    let own = c .before .before .before .before .before .before .word2 .ensures ∙ ap (λ (x : ℕ). bigEndian 4 (a .args .s .now) (x + 8)) at in
+    let attested = c .before .before .before .before .word3 .ensures ∙ ap (λ (x : ℕ). bigEndian 4 (a .args .s .now) x) at in
+    rw (
+      c .before .before .before .less2 .ensures,
+      c .before .before .before .before .before .less .ensures,
+      summed-is m (a .args .p) _ _ (a .pre .1 .0) d,
+      own,
+      attested,
+      c .ks-of .ensures,
+      left-first,
     )
 
-pub found-of-spec : {M : Type 1} → statement M
-found-of-spec =
+pub terms-of-spec : {M : Type 1} → statement M
+terms-of-spec =
     tie.close
     (tie.spec
     producer-at-requires
@@ -123,5 +117,4 @@ found-of-spec =
     k4-sums-requires
     control-hours-requires
     ks-of-requires
-    high-hours-requires
     returns)
