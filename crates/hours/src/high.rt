@@ -11,9 +11,9 @@ ghost use Rattle.rules.specs.Sheet.{hourAt, hoursWidth, monthUnder};
 ghost use Rattle.rules.specs.Refusals.{tooHigh, highHour};
 use crate::hour;
 use limits::too_high;
+use places::hours_at;
 use rules::Header;
 use rules::Hour;
-use sheet::hours_at;
 
 fn wide(b: u8) -> u32
     ensures { λ r. ⌜ (r ≡ b) × (r ≤ 255) ⌝ }

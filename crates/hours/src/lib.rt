@@ -6,9 +6,9 @@ ghost use Rattle.rules.specs.Month.{hours};
 ghost use Rattle.rules.specs.Sheet.{hourAt, hoursWidth, hourOf, monthUnder};
 ghost use Rattle.hours.specs.Sums.{K4Before, sumsIn};
 use fields::word;
+use places::hours_at;
 use rules::Header;
 use rules::Hour;
-use sheet::hours_at;
 
 mod high;
 

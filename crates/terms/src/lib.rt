@@ -27,9 +27,9 @@ use figures::less;
 use figures::nearest;
 use hours::Sums;
 use hours::hour_sums;
+use places::producer_at;
+use places::sheet_length;
 use rules::Header;
-use sheet::producer_at;
-use sheet::sheet_length;
 use volumes::Volumes;
 use volumes::row_volumes;
 

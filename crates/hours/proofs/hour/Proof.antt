@@ -1,4 +1,4 @@
-use Rattle.sheet.proofs.Hours.{hour-there}
+use Rattle.places.proofs.Hours.{hour-there}
 use Rattle.hours.proofs.Turns.{hour-read}
 use borrow.Author.Needs.{needs}
 use Rattle.hours.proofs.hour.Statement.{statement}
@@ -6,7 +6,7 @@ use Rattle.hours.proofs.hour.Tie as tie
 use Rattle.hours.proofs.hour.Reads as reads
 use Rattle.hours.proofs.hour.Lts as lts
 use Rattle.fields.proofs.word.Reads as word-reads
-use Rattle.sheet.proofs.hours_at.Reads as hours-at-reads
+use Rattle.places.proofs.hours_at.Reads as hours-at-reads
 
 -- src/lib.rt:33:14
 hours-at-requires : tie.Need-hours-at-requires

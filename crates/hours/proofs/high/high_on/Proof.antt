@@ -1,7 +1,7 @@
 use native.Mathlib.Omega.{arith}
 use mathlib.Core.Path.{sym, _∙_}
 use Rattle.laws.proofs.Range.{any-none}
-use Rattle.sheet.proofs.Hours.{hour-there}
+use Rattle.places.proofs.Hours.{hour-there}
 use Rattle.hours.proofs.Bits.{low-hour}
 use borrow.Author.Needs.{needs}
 use Rattle.hours.proofs.high.high_on.Statement.{statement}
@@ -10,7 +10,7 @@ use Rattle.hours.proofs.high.high_on.Reads as reads
 use Rattle.hours.proofs.high.high_on.Lts as lts
 use Rattle.hours.proofs.high.bits_on.Reads as bits-on-reads
 use Rattle.hours.proofs.high.one_by_one.Reads as one-by-one-reads
-use Rattle.sheet.proofs.hours_at.Reads as hours-at-reads
+use Rattle.places.proofs.hours_at.Reads as hours-at-reads
 
 -- src/high.rt:73:14
 hours-at-requires : tie.Need-hours-at-requires
