@@ -9,7 +9,7 @@ use Rattle.rules.specs.Range.{any}
 use Rattle.rules.specs.Sheet.{hourAt, hourOf, monthUnder}
 use Rattle.rules.specs.Refusals.{oneOf, highHour}
 use Rattle.laws.proofs.Range.{any-append, any-same}
-use Rattle.sheet.proofs.Hours.{hour-there}
+use Rattle.places.proofs.Hours.{hour-there}
 use Rattle.ceiling.specs.High.{highOne}
 
 -- An hour of a producer, where it stands in the sheet.

@@ -13,9 +13,9 @@ use limits::bad_reference;
 use limits::high_consumer;
 use limits::too_dear;
 use limits::too_high;
+use places::producer_at;
 use rules::Header;
 use sheet::consumer;
-use sheet::producer_at;
 use sheet::row;
 
 // What is wrong with some producer: number 8, number 9.

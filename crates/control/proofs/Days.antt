@@ -16,7 +16,7 @@ use Rattle.rules.specs.ControlHours.{weekdayOn, holidayOn, controlDay, controlS
 use Rattle.laws.proofs.Range.{sum-none, sum-more, sum-fold, sum-same}
 use Rattle.laws.proofs.Fields.{read-part}
 use Rattle.laws.proofs.ControlHours.{evening, control-by-day, count-by-day}
-use Rattle.sheet.proofs.Hours.{hour-there}
+use Rattle.places.proofs.Hours.{hour-there}
 use Rattle.control.specs.declared.Control.{Control}
 use Rattle.control.specs.Control.{controlOf}
 

@@ -7,8 +7,8 @@ ghost use Rattle.rules.specs.Sheet.{hourAt, hoursWidth, hourOf, monthUnder};
 ghost use Rattle.control.specs.Control.{controlOf, controlIn};
 use calendar::weekday_on;
 use fields::word;
+use places::hours_at;
 use rules::Header;
-use sheet::hours_at;
 
 // The outside use of a producer's control hours in all, in tenths of a megawatt, and how many hours these are.
 pub struct Control {

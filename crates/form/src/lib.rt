@@ -5,10 +5,10 @@ ghost use Rattle.rules.specs.Refusals.{badMonth, tooMany, formTests, roomTests,
 use calendar::holiday_past;
 use fields::byte;
 use fields::word;
+use places::result_length;
+use places::sheet_length;
 use rules::Header;
 use sheet::header;
-use sheet::result_length;
-use sheet::sheet_length;
 
 mod stretch;
 

@@ -3,8 +3,8 @@ ghost use mathlib.Core.Path.{_≡_};
 ghost use Prim.Native.Nat.{_+_};
 ghost use Rattle.rules.specs.Outcome.{hoursStretch, within};
 use crate::form_refusal;
+use places::hours_at;
 use sheet::header;
-use sheet::hours_at;
 
 // Producer p's hours: that part of the lent sheet, and no copy. Empty where a number from 1 to 6 applies, or there is no producer p.
 pub fn producer_hours(s: &[u8], p: u8) -> &[u8]

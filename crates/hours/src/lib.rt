@@ -6,9 +6,9 @@ ghost use Rattle.rules.specs.Month.{hours};
 ghost use Rattle.rules.specs.Sheet.{hourAt, hoursWidth, hourOf, monthUnder};
 ghost use Rattle.hours.specs.Sums.{K4Before, k4In};
 use fields::word;
+use places::hours_at;
 use rules::Header;
 use rules::Hour;
-use sheet::hours_at;
 
 // Over the hours: m and what was met of it (k4), in tenths of a megawatt.
 pub struct K4 {

@@ -9,8 +9,8 @@ use contents::figure_refusal;
 use form::form_refusal;
 use form::producer_hours;
 use form::room_refusal;
+use places::result_length;
 use sheet::header;
-use sheet::result_length;
 
 mod consumers;
 mod result;

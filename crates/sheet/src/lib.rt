@@ -1,10 +1,11 @@
-// The sheet: where its records stand, and what its header, rows and consumers say.
+// What a sheet says in its header, its rows and its consumers.
 ghost use mathlib.Core.Path.{_≡_};
 ghost use Prim.Native.Nat.{_≤_};
-ghost use Rattle.rules.specs.Sheet.{headerOf, producerAt, hourAt, rowAt, consumerAt, sheetLength, rowOf, consumerOf};
-ghost use Rattle.rules.specs.Result.{resultLength};
+ghost use Rattle.rules.specs.Sheet.{headerOf, rowAt, consumerAt, rowOf, consumerOf};
 use fields::byte;
 use fields::word;
+use places::consumer_at;
+use places::row_at;
 use rules::Consumer;
 use rules::Header;
 use rules::Row;
@@ -21,48 +22,6 @@ pub fn header(s: &[u8]) -> Header
         rows: byte(s, 12),
         consumers: byte(s, 13),
     }
-}
-
-// Where producer p begins.
-pub fn producer_at(h: Header, p: u8) -> usize
-    ensures { λ r. ⌜ (r ≡ producerAt h p) × (r ≤ 20000000) ⌝ }
-{
-    14 + (p as usize) * (42 + 288 * (h.days as usize))
-}
-
-// Where producer p's hours begin.
-pub fn hours_at(h: Header, p: u8) -> usize
-    ensures { λ r. ⌜ (r ≡ hourAt h p 0) × (r ≤ 20000042) ⌝ }
-{
-    producer_at(h, p) + 42
-}
-
-// Where row j begins.
-pub(crate) fn row_at(h: Header, j: u8) -> usize
-    ensures { λ r. ⌜ (r ≡ rowAt h j) × (r ≤ 20002550) ⌝ }
-{
-    producer_at(h, h.producers) + 10 * (j as usize)
-}
-
-// Where consumer c begins.
-pub(crate) fn consumer_at(h: Header, c: u8) -> usize
-    ensures { λ r. ⌜ (r ≡ consumerAt h c) × (r ≤ 20006375) ⌝ }
-{
-    row_at(h, h.rows) + 15 * (c as usize)
-}
-
-// The length that the header asks of the sheet.
-pub fn sheet_length(h: Header) -> usize
-    ensures { λ r. ⌜ r ≡ sheetLength h ⌝ }
-{
-    consumer_at(h, h.consumers)
-}
-
-// The length of the result.
-pub fn result_length(h: Header) -> usize
-    ensures { λ r. ⌜ r ≡ resultLength h ⌝ }
-{
-    21 + 16 * (h.rows as usize) + 25 * (h.consumers as usize)
 }
 
 // A row near the sheet's end: a byte past the end counts as 0.

@@ -25,9 +25,9 @@ use figures::less;
 use figures::nearest;
 use hours::K4;
 use hours::k4_sums;
+use places::producer_at;
+use places::sheet_length;
 use rules::Header;
-use sheet::producer_at;
-use sheet::sheet_length;
 use volumes::Volumes;
 use volumes::row_volumes;
 

@@ -1,7 +1,7 @@
 use native.Mathlib.Omega.{arith}
 use mathlib.Core.Path.{sym, _∙_}
 use Rattle.laws.proofs.Range.{any-none}
-use Rattle.sheet.proofs.Hours.{hour-there}
+use Rattle.places.proofs.Hours.{hour-there}
 use Rattle.ceiling.proofs.Bits.{low-hour}
 use Rattle.ceiling.proofs.Days.{day-there}
 use borrow.Author.Needs.{needs}

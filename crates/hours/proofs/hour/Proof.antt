@@ -1,4 +1,4 @@
-use Rattle.sheet.proofs.Hours.{hour-there}
+use Rattle.places.proofs.Hours.{hour-there}
 use Rattle.hours.proofs.Turns.{hour-read}
 use borrow.Author.Needs.{needs}
 use Rattle.hours.proofs.hour.Statement.{statement}

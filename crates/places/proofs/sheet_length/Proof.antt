@@ -1,7 +1,7 @@
 use Rattle.rules.specs.Sheet.{sheetLength}
 use borrow.Author.Needs.{needs}
-use Rattle.sheet.proofs.sheet_length.Statement.{statement}
-use Rattle.sheet.proofs.sheet_length.Tie as tie
+use Rattle.places.proofs.sheet_length.Statement.{statement}
+use Rattle.places.proofs.sheet_length.Tie as tie
 
 consumer-at-requires : tie.Need-consumer-at-requires
 consumer-at-requires c κs = search needs

@@ -1,8 +1,8 @@
 use native.Mathlib.Omega.{arith}
 use Rattle.rules.specs.Result.{resultLength}
 use borrow.Author.Needs.{needs}
-use Rattle.sheet.proofs.result_length.Statement.{statement}
-use Rattle.sheet.proofs.result_length.Tie as tie
+use Rattle.places.proofs.result_length.Statement.{statement}
+use Rattle.places.proofs.result_length.Tie as tie
 
 cast-result : tie.Need-cast-result
 cast-result c = search needs

@@ -2,8 +2,8 @@ use native.Mathlib.Omega.{arith}
 use Rattle.rules.specs.Sheet.{producerAt}
 use Rattle.laws.proofs.Sheet.{producers-le}
 use borrow.Author.Needs.{needs}
-use Rattle.sheet.proofs.producer_at.Statement.{statement}
-use Rattle.sheet.proofs.producer_at.Tie as tie
+use Rattle.places.proofs.producer_at.Statement.{statement}
+use Rattle.places.proofs.producer_at.Tie as tie
 
 cast-result : tie.Need-cast-result
 cast-result c = search needs

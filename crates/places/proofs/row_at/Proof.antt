@@ -1,8 +1,8 @@
 use native.Mathlib.Omega.{arith}
 use Rattle.rules.specs.Sheet.{rowAt}
 use borrow.Author.Needs.{needs}
-use Rattle.sheet.proofs.row_at.Statement.{statement}
-use Rattle.sheet.proofs.row_at.Tie as tie
+use Rattle.places.proofs.row_at.Statement.{statement}
+use Rattle.places.proofs.row_at.Tie as tie
 
 producer-at-requires : tie.Need-producer-at-requires
 producer-at-requires c κs = search needs

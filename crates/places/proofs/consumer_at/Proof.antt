@@ -1,8 +1,8 @@
 use native.Mathlib.Omega.{arith}
 use Rattle.rules.specs.Sheet.{consumerAt}
 use borrow.Author.Needs.{needs}
-use Rattle.sheet.proofs.consumer_at.Statement.{statement}
-use Rattle.sheet.proofs.consumer_at.Tie as tie
+use Rattle.places.proofs.consumer_at.Statement.{statement}
+use Rattle.places.proofs.consumer_at.Tie as tie
 
 row-at-requires : tie.Need-row-at-requires
 row-at-requires c κs = search needs
