@@ -2,6 +2,7 @@
 ghost use mathlib.Core.Path.{_≡_};
 ghost use mathlib.Core.Bool.{cond};
 ghost use Rattle.rules.specs.Refusals.{badMonth, tooMany, formTests, roomTests, firstOf};
+ghost use Rattle.form.specs.Form.{headerTests};
 use calendar::holiday_past;
 use fields::byte;
 use fields::word;
@@ -35,15 +36,21 @@ fn too_many(h: Header) -> bool
     (6 < h.producers) | ((32 < h.rows) | (32 < h.consumers))
 }
 
+// The first of the numbers 4 to 6 that applies to a header, with a sheet of so many bytes; 0 where none does.
+pub fn header_refusal(h: Header, bytes: usize) -> u8
+    ensures { λ r. ⌜ r ≡ firstOf (headerTests h bytes) ⌝ }
+{
+    let six = first(6, bytes != sheet_length(h), 0);
+    let five = first(5, too_many(h), six);
+    first(4, bad_month(h), five)
+}
+
 // The first of the numbers 1 to 6 that applies, 0 where none does.
 pub fn form_refusal(s: &[u8]) -> u8
     ensures { λ r. ⌜ r ≡ firstOf (formTests (now (s .entry))) ⌝ }
 {
-    let h = header(s);
     let told = word(s, 0) as usize;
-    let six = first(6, told != sheet_length(h), 0);
-    let five = first(5, too_many(h), six);
-    let four = first(4, bad_month(h), five);
+    let four = header_refusal(header(s), told);
     let three = first(3, byte(s, 4) != 1, four);
     let two = first(2, told != s.len(), three);
     first(1, s.len() < 14, two)

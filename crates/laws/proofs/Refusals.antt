@@ -93,7 +93,7 @@ unfolding oneOf
 all-fail [] f = refl
 all-fail (b ∷ bs) f = rw (f .0, all-fail bs (f .1))
 
-not-true : (b : Bool) → not b ≡ false → b ≡ true
+pub not-true : (b : Bool) → not b ≡ false → b ≡ true
 not-true true e = refl
 not-true false e = absurd (true≢false e)
 
@@ -123,7 +123,7 @@ clear-dear v l = le-ltb _ _ l
 
 -- The limits of one record from its tests, and its tests from the limits.
 module _ (h : Header) where
-  header-limits : badMonth h ≡ false → tooMany h ≡ false → HeaderLimits h
+  pub header-limits : badMonth h ≡ false → tooMany h ≡ false → HeaderLimits h
   unfolding badMonth tooMany
   header-limits e4 e5 =
       let a = none-of _ e4 in

@@ -1,50 +1,41 @@
 -- Which list of tests the first number comes from, and what an entry answers and leaves. Assumes nothing.
 use mathlib.Core.Path.{_≡_, refl, sym, ap, _∙_}
-use mathlib.Core.Bool.{true, false, cond}
-use mathlib.Core.List.{List, _++_}
+use mathlib.Core.Bool.{Bool, false, cond, not}
+use mathlib.Core.List.{List, [], _∷_, _++_}
 use Prim.Native.Nat.{ℕ}
-use borrow.Author.Tests.{eq-eqb, ne-eqb}
+use borrow.Author.Tests.{eqb-true, eq-eqb, ne-eqb}
 use lib.ListN.{length}
 use lib.Dec.{T, eqb}
 use Rattle.rules.specs.declared.Header.{Header}
-use Rattle.rules.specs.Fields.{over}
-use Rattle.rules.specs.Result.{resultLength, resultOf}
-use Rattle.rules.specs.Outcome.{Outcome, refused, written, outcome, bufferAfter}
-use Rattle.rules.specs.Sheet.{headerOf, monthUnder, monthOf}
-use Rattle.rules.specs.Refusals.{formTests, roomTests, figureTests, tests, firstOf, refusal}
-use Rattle.laws.proofs.Refusals.{numbered, first-append}
+use Rattle.rules.specs.Sheet.{lengthField, headerOf, sheetLength, monthOf}
+use Rattle.rules.specs.Result.{resultLength}
+use Rattle.rules.specs.Refusals.{formTests, roomTests, figureTests, tests, applies, firstOf, refusal}
+use Rattle.rules.specs.Outcome.{refused, written, outcome, bufferAfter}
+use Rattle.laws.proofs.Refusals.{numbered, none-applies, first-append, not-true}
+use Rattle.form.specs.Form.{headerTests}
+use Rattle.month.specs.Numbers.{monthNumber, monthAfter}
+use Rattle.settlement.specs.Front.{frontTests, frontNumber}
 
 module _ (s : List ℕ) (room : ℕ) where
-  form-numbered : T (numbered (formTests s))
-  unfolding formTests
-  form-numbered = tt
+  front-numbered : T (numbered (frontTests s))
+  unfolding frontTests
+  front-numbered = tt
 
-  both-numbered : T (numbered (formTests s ++ roomTests (headerOf s) room))
-  unfolding formTests roomTests
-  both-numbered = tt
-
+  -- The first of 1 to 3 is the sheet's number; where there is none, the first of 4 to 12 is, with the length that the sheet states.
   split : refusal s room
-      ≡ cond (eqb (firstOf (formTests s ++ roomTests (headerOf s) room)) 0) (firstOf (figureTests (monthOf s))) (firstOf (formTests s ++ roomTests (headerOf s) room))
-  unfolding refusal tests
-  split = first-append (formTests s ++ roomTests (headerOf s) room) (figureTests (monthOf s)) both-numbered
+      ≡ cond (eqb (frontNumber s) 0) (firstOf ((headerTests (headerOf s) (lengthField s) ++ roomTests (headerOf s) room) ++ figureTests (monthOf s))) (frontNumber s)
+  unfolding refusal tests formTests frontTests headerTests roomTests
+  split = first-append (frontTests s) ((headerTests (headerOf s) (lengthField s) ++ roomTests (headerOf s) room) ++ figureTests (monthOf s)) front-numbered
 
-  pub form-first : (firstOf (formTests s) ≡ 0 → ⊥) → refusal s room ≡ firstOf (formTests s)
-  form-first n =
-      let e : firstOf (formTests s ++ roomTests (headerOf s) room) ≡ firstOf (formTests s) =
-      first-append (formTests s) (roomTests (headerOf s) room) form-numbered ∙ rw (ne-eqb (firstOf (formTests s)) 0 n) in
-      split ∙ rw (e, ne-eqb (firstOf (formTests s)) 0 n)
+  pub front-stands : (frontNumber s ≡ 0 → ⊥) → frontNumber s ≡ refusal s room
+  front-stands n = sym (split ∙ rw (ne-eqb (frontNumber s) 0 n))
 
-  pub room-first : firstOf (formTests s) ≡ 0 → (firstOf (roomTests (headerOf s) room) ≡ 0 → ⊥) → refusal s room ≡ firstOf (roomTests (headerOf s) room)
-  room-first f n =
-      let e : firstOf (formTests s ++ roomTests (headerOf s) room) ≡ firstOf (roomTests (headerOf s) room) =
-      first-append (formTests s) (roomTests (headerOf s) room) form-numbered ∙ rw (eq-eqb (firstOf (formTests s)) 0 f) in
-      split ∙ rw (e, ne-eqb (firstOf (roomTests (headerOf s) room)) 0 n)
+  told : frontNumber s ≡ 0 → lengthField s ≡ length s
+  told n = unfold frontTests applies in eqb-true _ _ (not-true _ (none-applies (frontTests s) front-numbered n 2))
 
-  pub figures-last : firstOf (formTests s) ≡ 0 → firstOf (roomTests (headerOf s) room) ≡ 0 → refusal s room ≡ firstOf (figureTests (monthOf s))
-  figures-last f r =
-      let e : firstOf (formTests s ++ roomTests (headerOf s) room) ≡ firstOf (roomTests (headerOf s) room) =
-      first-append (formTests s) (roomTests (headerOf s) room) form-numbered ∙ rw (eq-eqb (firstOf (formTests s)) 0 f) in
-      split ∙ rw (e, eq-eqb (firstOf (roomTests (headerOf s) room)) 0 r)
+  pub month-next : frontNumber s ≡ 0 → monthNumber (headerOf s) s room ≡ refusal s room
+  unfolding monthNumber
+  month-next n = sym (split ∙ rw (eq-eqb (frontNumber s) 0 n, told n))
 
 -- A refused sheet: its number, and the buffer as it was.
 pub turned-down : (s out : List ℕ) (n : ℕ) → n ≡ refusal s (length out) → (n ≡ 0 → ⊥) → (refused n ≡ outcome s (length out)) × (out ≡ bufferAfter s out)
@@ -53,10 +44,20 @@ turned-down s out n e p =
     let q = ne-eqb (refusal s (length out)) 0 (λ z. p (e ∙ z)) in
     (rw (q, e), rw q)
 
--- An accepted sheet: the count, and the result over the buffer's front.
-pub settled : (s out x : List ℕ) (h : Header) (n : ℕ) → h ≡ headerOf s → refusal s (length out) ≡ 0 → n ≡ resultLength h
-    → x ≡ over (resultOf (monthUnder h s)) out → (written n ≡ outcome s (length out)) × (x ≡ bufferAfter s out)
-unfolding outcome bufferAfter
-settled s out x h n eh e en ex =
-    let q = eq-eqb (refusal s (length out)) 0 e in
-    (rw (q, en, eh), ex ∙ rw (q, eh))
+-- What the month leaves is what the sheet leaves.
+module _ (s out : List ℕ) (h : Header) (eh : h ≡ headerOf s) (front : frontNumber s ≡ 0) where
+  number : {n : ℕ} → n ≡ monthNumber h s (length out) → n ≡ refusal s (length out)
+  number e = e ∙ ap (λ (x : Header). monthNumber x s (length out)) eh ∙ month-next s (length out) front
+
+  after : monthAfter h s out ≡ bufferAfter s out
+  unfolding monthAfter bufferAfter
+  after = rw (eh, month-next s (length out) front)
+
+  pub refused-then : {n : ℕ} (x : List ℕ) → n ≡ monthNumber h s (length out) → (n ≡ 0 → ⊥) → x ≡ monthAfter h s out
+      → (refused n ≡ outcome s (length out)) × (x ≡ bufferAfter s out)
+  refused-then x e p q = (turned-down s out _ (number e) p .0, q ∙ after)
+
+  pub settled-then : {n count : ℕ} (x : List ℕ) → n ≡ monthNumber h s (length out) → n ≡ 0 → count ≡ resultLength h → x ≡ monthAfter h s out
+      → (written count ≡ outcome s (length out)) × (x ≡ bufferAfter s out)
+  unfolding outcome
+  settled-then x e z k q = (rw (eq-eqb (refusal s (length out)) 0 (sym (number e) ∙ z), k, eh), q ∙ after)

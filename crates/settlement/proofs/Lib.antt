@@ -1,4 +1,2 @@
 pub mod Answered
-pub mod Parts
-pub mod Turns
 pub mod Signed

@@ -1,2 +1,2 @@
 pub mod Said
-pub mod Carried
+pub mod Front

@@ -2,19 +2,16 @@
 ghost use mathlib.Core.Path.{_≡_};
 ghost use lib.ListN.{length};
 ghost use Prim.Native.Nat.{_+_};
-ghost use Rattle.rules.specs.Refusals.{refusal};
 ghost use Rattle.rules.specs.Outcome.{outcome, bufferAfter, hoursStretch, within};
+ghost use Rattle.settlement.specs.Front.{frontNumber};
 ghost use Rattle.settlement.specs.Said.{said, inC};
-use contents::figure_refusal;
-use form::form_refusal;
+use fields::byte;
+use fields::word;
+use form::first;
 use form::producer_hours;
-use form::room_refusal;
+use month::settle_month;
 use places::result_length;
 use sheet::header;
-
-mod consumers;
-mod result;
-mod rows;
 
 // What a settlement answers: a refusal with its number, or the count of bytes written.
 pub enum Answer {
@@ -22,20 +19,13 @@ pub enum Answer {
     Written(usize),
 }
 
-// The first number that applies to a sheet with a result buffer of so many bytes, 0 where none does.
-fn refusal_of(s: &[u8], room: usize) -> u8
-    ensures { λ r. ⌜ r ≡ refusal (now (s .entry)) room ⌝ }
+// The first of the numbers 1 to 3 that applies to a sheet, 0 where none does.
+fn front_refusal(s: &[u8]) -> u8
+    ensures { λ r. ⌜ r ≡ frontNumber (now (s .entry)) ⌝ }
 {
-    let form = form_refusal(s);
-    if form != 0 {
-        return form;
-    }
-    let h = header(s);
-    let seven = room_refusal(h, room);
-    if seven != 0 {
-        return seven;
-    }
-    figure_refusal(s, h)
+    let three = first(3, byte(s, 4) != 1, 0);
+    let two = first(2, word(s, 0) as usize != s.len(), three);
+    first(1, s.len() < 14, two)
 }
 
 // Settles a sheet into a result buffer. A refusal changes no byte of the buffer; bytes past a result keep what they had.
@@ -43,12 +33,15 @@ pub fn settle(sheet: &[u8], result: &mut [u8]) -> Answer
     ensures { λ r. ⌜ said r ≡ outcome (now (sheet .entry)) (length (now (result .entry))) ⌝ }
     ensures buffer { λ r. ⌜ now (result .exit) ≡ bufferAfter (now (sheet .entry)) (now (result .entry)) ⌝ }
 {
-    let number = refusal_of(sheet, result.len());
+    let front = front_refusal(sheet);
+    if front != 0 {
+        return Answer::Refused(front);
+    }
+    let h = header(sheet);
+    let number = settle_month(sheet, h, result);
     if number != 0 {
         return Answer::Refused(number);
     }
-    let h = header(sheet);
-    result::write_result(sheet, h, result);
     Answer::Written(result_length(h))
 }
 

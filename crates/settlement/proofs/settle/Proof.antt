@@ -1,46 +1,54 @@
-use native.Mathlib.Omega.{arith}
 use mathlib.Core.Path.{sym, _∙_}
-use lib.ListN.{length}
-use Rattle.laws.proofs.Refusals.{limits}
-use Rattle.settlement.proofs.Answered.{turned-down, settled}
+use Rattle.settlement.proofs.Answered.{front-stands, turned-down, refused-then, settled-then}
 use borrow.Author.Needs.{needs}
 use Rattle.settlement.proofs.settle.Statement.{statement}
 use Rattle.settlement.proofs.settle.Tie as tie
 
-refusal-of-requires : tie.Need-refusal-of-requires
-refusal-of-requires c κs = search needs
+front-refusal-requires : tie.Need-front-refusal-requires
+front-refusal-requires c κs = search needs
 
 returns : tie.Need-returns
-returns c = turned-down _ _ _ (c .before .refusal-of .ensures) (c .if1 .taken)
+returns c =
+    let e = c .before .front-refusal .ensures in
+    turned-down _ _ _ (e ∙ front-stands _ _ (λ z. c .if1 .taken (e ∙ z))) (c .if1 .taken)
 
 header-requires : tie.Need-header-requires
 header-requires c κs = search needs
 
-write-result-requires : tie.Need-write-result-requires
-write-result-requires c κs =
-    let a = c .before .before .before .before .before .before .args in
-    let w = limits (a .sheet .now) (length (a .result .now)) (sym (c .before .before .before .refusal-of .ensures) ∙ c .before .before .if1 .left) in
-    rw (c .before .header .ensures) ((w .month, omega (arith, w .form .length-told, w .form .length-right)), w .enough-room)
-
-result-length-requires : tie.Need-result-length-requires
-result-length-requires c κs = search needs
+settle-month-requires : tie.Need-settle-month-requires
+settle-month-requires c κs = search needs
 
 same-length : tie.Need-same-length
 same-length c = search needs
 
 returns-2 : tie.Need-returns-2
 returns-2 c =
-    let a = c .before .before .before .before .before .before .before .before .before .before .args in
-    settled (a .sheet .now) (a .result .now) _ _ _ (c .before .before .before .before .before .header .ensures) (sym (c .before .before .before .before .before .before .before .refusal-of .ensures) ∙ c .before .before .before .before .before .before .if1 .left) (c .result-length .ensures) (c .before .before .before .write-result .ensures)
+    let front = sym (c .before .before .before .before .before .before .before .front-refusal .ensures) ∙ c .before .before .before .before .before .before .if1 .left in
+    let m = c .before .before .before .settle-month .ensures in
+    refused-then _ _ _ (c .before .before .before .before .before .header .ensures) front _ (m .0) (c .if2 .taken) (m .1)
+
+result-length-requires : tie.Need-result-length-requires
+result-length-requires c κs = search needs
+
+same-length-2 : tie.Need-same-length-2
+same-length-2 c = search needs
+
+returns-3 : tie.Need-returns-3
+returns-3 c =
+    let front = sym (c .before .before .before .before .before .before .before .before .front-refusal .ensures) ∙ c .before .before .before .before .before .before .before .if1 .left in
+    let m = c .before .before .before .before .settle-month .ensures in
+    settled-then _ _ _ (c .before .before .before .before .before .before .header .ensures) front _ (m .0) (c .before .if2 .left) (c .result-length .ensures) (m .1)
 
 pub settle-spec : {M : Type 1} → statement M
 settle-spec =
     tie.close
     (tie.spec
-    refusal-of-requires
+    front-refusal-requires
     returns
     header-requires
-    write-result-requires
-    result-length-requires
+    settle-month-requires
     same-length
-    returns-2)
+    returns-2
+    result-length-requires
+    same-length-2
+    returns-3)

@@ -1,0 +1,42 @@
+// The figures of one month: numbers 4 to 12 under a header, and the result of a month to which none applies.
+ghost use mathlib.Core.Path.{_≡_};
+ghost use Prim.Native.Nat.{ℕ};
+ghost use lib.ListN.{length};
+ghost use Rattle.month.specs.Numbers.{earlyNumber, monthNumber, monthAfter};
+use contents::figure_refusal;
+use form::header_refusal;
+use form::room_refusal;
+use rules::Header;
+
+mod consumers;
+mod result;
+mod rows;
+
+// The first of the numbers 4 to 7 that applies, with a sheet and a result buffer of so many bytes; 0 where none does.
+fn early_refusal(h: Header, bytes: usize, room: usize) -> u8
+    ensures { λ r. ⌜ r ≡ earlyNumber h bytes room ⌝ }
+{
+    let six = header_refusal(h, bytes);
+    if six != 0 {
+        return six;
+    }
+    room_refusal(h, room)
+}
+
+// The first of the numbers 4 to 12 that applies to the month that a header puts into a sheet. Where none does the answer is 0 and the
+// result stands at the buffer's front.
+pub fn settle_month(s: &[u8], h: Header, out: &mut [u8]) -> u8
+    ensures { λ r. ⌜ r ≡ monthNumber h (now (s .entry)) (length (now (out .entry))) ⌝ }
+    ensures buffer { λ r. ⌜ now (out .exit) ≡ monthAfter h (now (s .entry)) (now (out .entry)) ⌝ }
+{
+    let early = early_refusal(h, s.len(), out.len());
+    if early != 0 {
+        return early;
+    }
+    let number = figure_refusal(s, h);
+    if number != 0 {
+        return number;
+    }
+    result::write_result(s, h, out);
+    0
+}
