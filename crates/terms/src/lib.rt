@@ -37,6 +37,11 @@ pub struct Terms {
     pub ks: [u64; 10],
 }
 
+// The terms of six producers, as many as a sheet may have.
+pub struct AllTerms {
+    pub of: [Terms; 6],
+}
+
 // 1 - n × D / T.
 fn less_penalty(support: u64, penalty: u64) -> u64
     requires { ⌜ support ≤ 1095216660225 ⌝ }
@@ -129,9 +134,9 @@ fn with_terms(s: &[u8], h: Header) -> u8
     }
 }
 
-// The excess and the coefficients of six producers, as many as a sheet may have, before the first row.
-pub fn all_terms(s: &[u8], h: Header) -> [Terms; 6]
-    ensures { λ r. ⌜ (length r ≡ 6) × ((p : ℕ) → p < 6 → getD r p noTerms ≡ termsOf h (now (s .entry)) p) ⌝ }
+// The excess and the coefficients of six producers, before the first row.
+pub fn all_terms(s: &[u8], h: Header) -> AllTerms
+    ensures { λ r. ⌜ (length (r .of) ≡ 6) × ((p : ℕ) → p < 6 → getD (r .of) p noTerms ≡ termsOf h (now (s .entry)) p) ⌝ }
 {
     let none = Terms {
         excess: 0,
@@ -143,9 +148,9 @@ pub fn all_terms(s: &[u8], h: Header) -> [Terms; 6]
     let mut p: u8 = 0;
     while p < n {
         let i = p as usize;
-        let v = volumes[i];
+        let v = volumes.of[i];
         of[i] = terms_of(s, h, p, v);
         p += 1;
     }
-    of
+    AllTerms { of }
 }

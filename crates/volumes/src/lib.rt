@@ -14,6 +14,11 @@ pub struct Volumes {
     pub bilateral: u64,
 }
 
+// The volumes of six producers, as many as a sheet may have.
+pub struct AllVolumes {
+    pub of: [Volumes; 6],
+}
+
 // A producer's volumes with one of its rows more.
 fn with_row(v: Volumes, r: Row) -> Volumes
     requires { ⌜ (v .support ≤ 1095216660225) × (v .bilateral ≤ 1095216660225) ⌝ }
@@ -33,10 +38,10 @@ fn with_row(v: Volumes, r: Row) -> Volumes
     }
 }
 
-// T and B of six producers, as many as a sheet may have. A row of another producer counts for none.
-pub fn row_volumes(s: &[u8], h: Header) -> [Volumes; 6]
-    ensures { λ r. ⌜ (length r ≡ 6) × ((p : ℕ) → p < 6 → getD r p noVolumes ≡ volumesOf (monthUnder h (now (s .entry))) p) ⌝ }
-    ensures fits { λ r. ⌜ ((p : ℕ) → p < 6 → (getD r p noVolumes .support ≤ 1095216660225) × (getD r p noVolumes .bilateral ≤ 1095216660225)) ⌝ }
+// T and B of six producers. A row of another producer counts for none.
+pub fn row_volumes(s: &[u8], h: Header) -> AllVolumes
+    ensures { λ r. ⌜ (length (r .of) ≡ 6) × ((p : ℕ) → p < 6 → getD (r .of) p noVolumes ≡ volumesOf (monthUnder h (now (s .entry))) p) ⌝ }
+    ensures fits { λ r. ⌜ ((p : ℕ) → p < 6 → (getD (r .of) p noVolumes .support ≤ 1095216660225) × (getD (r .of) p noVolumes .bilateral ≤ 1095216660225)) ⌝ }
 {
     let none = Volumes {
         support: 0,
@@ -53,5 +58,5 @@ pub fn row_volumes(s: &[u8], h: Header) -> [Volumes; 6]
         }
         j += 1;
     }
-    of
+    AllVolumes { of }
 }

@@ -15,7 +15,7 @@ abbrev Inv-loop : tie.InvT-loop
 Inv-loop s h of₀ volumes n p₀ of p =
     Filled (monthUnder h s) p of
     × (p ≤ n)
-    × VolumesKnown (monthUnder h s) volumes
+    × VolumesKnown (monthUnder h s) (volumes .of)
     × (n ≡ withTerms h s)
     × (n ≤ 6)
     × (0 < n → (h .days ≤ 31) × (n ≤ h .producers) × (sheetLength h ≤ length s))
@@ -40,8 +40,8 @@ cast-i c = search needs
 mul-v : tie.Need-mul-v Inv-loop μ-loop
 mul-v c = search needs
 
-array-copy-out-v : tie.Need-array-copy-out-v Inv-loop μ-loop
-array-copy-out-v c = omega arith
+element-copy-out-v : tie.Need-element-copy-out-v Inv-loop μ-loop
+element-copy-out-v c = omega arith
 
 terms-of-requires : tie.Need-terms-of-requires Inv-loop μ-loop
 terms-of-requires c κs =
@@ -89,7 +89,7 @@ all-terms-spec =
     loop-holds
     cast-i
     mul-v
-    array-copy-out-v
+    element-copy-out-v
     terms-of-requires
     mul-of
     array-set-from-of
