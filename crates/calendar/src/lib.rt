@@ -17,7 +17,7 @@ pub fn holiday_on(h: Header, day: u8) -> bool
 }
 
 // The weekday of a day, Monday 1 to Sunday 7.
-pub fn weekday_on(h: Header, day: u8) -> u32
+fn weekday_on(h: Header, day: u8) -> u32
     ensures { λ r. ⌜ r ≡ weekdayOn h day ⌝ }
 {
     (h.weekday as u32 + day as u32 + 6) % 7 + 1

@@ -1,43 +1,22 @@
 -- What a loop over the days carries, from a day to the next, and the six hours of an evening in the sheet. Assumes nothing.
 use mathlib.Core.Path.{_≡_, refl, sym, ap, _∙_}
-use mathlib.Core.Bool.{Bool, true, false, not, _&&_}
+use mathlib.Core.Bool.{true, false}
 use mathlib.Core.List.{List}
-use Prim.Native.Nat.{ℕ, zero-le, _+_, _*_, _/_, _%_, _^_, _≤_, _<_}
+use Prim.Native.Nat.{ℕ, zero-le, _+_, _*_, _≤_, _<_}
 use native.Mathlib.Nat.{add-zero}
 use native.Mathlib.Omega.{arith}
-use lib.Dec.{eqb, leb}
 use lib.ListN.{take, drop}
-use lib.Pow.{shr-shr}
 use Rattle.rules.specs.declared.Header.{Header}
 use Rattle.rules.specs.Fields.{bigEndian}
 use Rattle.rules.specs.Range.{sum, when}
 use Rattle.rules.specs.Sheet.{hourAt, hourOf, monthUnder}
-use Rattle.rules.specs.ControlHours.{weekdayOn, holidayOn, controlDay, controlSum}
+use Rattle.rules.specs.ControlHours.{controlDay, controlSum}
 use Rattle.laws.proofs.Range.{sum-none, sum-more, sum-fold, sum-same}
 use Rattle.laws.proofs.Fields.{read-part}
 use Rattle.laws.proofs.ControlHours.{evening, control-by-day, count-by-day}
 use Rattle.places.proofs.Hours.{hour-there}
 use Rattle.control.specs.declared.Control.{Control}
 use Rattle.control.specs.Control.{controlOf}
-
--- The weekday of a day, and the holidays from it on.
-module _ (h : Header) (day : ℕ) where
-  pub weekday-le : {w : ℕ} → w ≡ weekdayOn h day → w ≤ 7
-  unfolding weekdayOn
-  weekday-le e = omega (arith, e)
-
-  pub weekday-next : {w : ℕ} → w ≡ weekdayOn h day → w % 7 + 1 ≡ weekdayOn h (day + 1)
-  unfolding weekdayOn
-  weekday-next e = omega (arith, e)
-
-  pub holidays-next : {x : ℕ} → x ≡ h .holidays / 2 ^ day → x / 2 ≡ h .holidays / 2 ^ (day + 1)
-  holidays-next e = ap (λ (x : ℕ). x / 2) e ∙ shr-shr (h .holidays) day 1
-
-  -- A control day, by what is carried.
-  pub control-test : {w x : ℕ} {b : Bool} → w ≡ weekdayOn h day → x ≡ h .holidays / 2 ^ day → (leb w 5 && not (eqb (x % 2) 1)) ≡ b
-      → controlDay h day ≡ b
-  unfolding controlDay holidayOn
-  control-test ew ex t = rw (← ew, ← ex) t
 
 -- The control hours of the days before a day: their outside use, and how many they are.
 pub record SoFar (h : Header) (series : ℕ → ℕ) (day counted count : ℕ) : Type 0 where

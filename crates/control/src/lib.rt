@@ -1,11 +1,11 @@
 // The outside use of a producer's control hours, and how many hours these are.
 ghost use mathlib.Core.Path.{_≡_};
-ghost use Prim.Native.Nat.{_+_, _*_, _%_, _≤_};
+ghost use Prim.Native.Nat.{_+_, _*_, _≤_};
 ghost use lib.ListN.{length};
 ghost use Rattle.rules.specs.Range.{sum};
 ghost use Rattle.rules.specs.Sheet.{hourAt, hoursWidth, hourOf, monthUnder};
 ghost use Rattle.control.specs.Control.{controlOf, controlIn};
-use calendar::weekday_on;
+use calendar::control_day;
 use fields::word;
 use places::hours_at;
 use rules::Header;
@@ -27,34 +27,21 @@ fn six_hours(s: &[u8], at: usize) -> u64
     early + word(part, 44) as u64 + word(part, 56) as u64 + word(part, 68) as u64
 }
 
-// The weekday after another: Monday after Sunday.
-fn next_weekday(weekday: u32) -> u32
-    requires { ⌜ weekday ≤ 7 ⌝ }
-    ensures { λ r. ⌜ r ≡ weekday % 7 + 1 ⌝ }
-{
-    if weekday == 7 { 1 } else { weekday + 1 }
-}
-
-// Day by day. The place of the day's hour 17, its weekday, and the holidays from it on are carried, so that a control day is known by two
-// small tests.
+// Day by day: six hours of each control day.
 fn by_day(s: &[u8], h: Header, p: u8) -> Control
     requires { ⌜ hourAt h p 0 + hoursWidth h ≤ length (now s) ⌝ }
     ensures { λ r. ⌜ (r ≡ controlOf h (monthUnder h (now (s .entry)) .producer p .outsideUse)) × (r .counted ≤ 4294967295 * r .count) ⌝ }
 {
     let mut at = hours_at(h, p) + 204;
-    let mut weekday = weekday_on(h, 0);
-    let mut holidays = h.holidays;
     let mut counted: u64 = 0;
     let mut count: u64 = 0;
     let mut day: u8 = 0;
     while day < h.days {
-        if (weekday <= 5) & (holidays % 2 != 1) {
+        if control_day(h, day) {
             counted = counted + six_hours(s, at);
             count = count + 6;
         }
         at = at + 288;
-        weekday = next_weekday(weekday);
-        holidays = holidays / 2;
         day += 1;
     }
     Control { counted, count }

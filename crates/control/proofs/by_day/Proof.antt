@@ -1,24 +1,19 @@
 use borrow.Author.Needs.{needs}
 use native.Mathlib.Omega.{arith}
-use mathlib.Core.Path.{_≡_, _∙_}
+use mathlib.Core.Path.{_≡_, sym, _∙_}
 use mathlib.Core.Logic.{⊎-elim}
-use Prim.Native.Nat.{_+_, _-_, _*_, _/_, _^_, _≤_, zero-le}
+use Prim.Native.Nat.{_+_, _-_, _*_, _≤_, zero-le}
 use Rattle.rules.specs.Sheet.{monthUnder}
-use Rattle.rules.specs.ControlHours.{weekdayOn}
-use Rattle.control.proofs.Days.{weekday-le, weekday-next, holidays-next, control-test, evening-there, SoFar, none-yet, control-more, other-more, all-days}
+use Rattle.control.proofs.Days.{evening-there, SoFar, none-yet, control-more, other-more, all-days}
 use Rattle.control.proofs.by_day.Statement.{statement}
 use Rattle.control.proofs.by_day.Tie as tie
 
 abbrev Inv-loop : tie.InvT-loop
-Inv-loop s h p at₀ weekday₀ holidays₀ counted₀ count₀ day₀ at weekday holidays counted count day =
-    SoFar h (monthUnder h s .producer p .outsideUse) day counted count
-    × (weekday ≡ weekdayOn h day)
-    × (holidays ≡ h .holidays / 2 ^ day)
-    × (at ≡ at₀ + 288 * day)
-    × (day ≤ h .days)
+Inv-loop s h p at₀ counted₀ count₀ day₀ at counted count day =
+    SoFar h (monthUnder h s .producer p .outsideUse) day counted count × (at ≡ at₀ + 288 * day) × (day ≤ h .days)
 
 abbrev μ-loop : tie.MeasureT-loop
-μ-loop s h p at₀ weekday₀ holidays₀ counted₀ count₀ day₀ at weekday holidays counted count day = h .days - day
+μ-loop s h p at₀ counted₀ count₀ day₀ at counted count day = h .days - day
 
 hours-at-requires : tie.Need-hours-at-requires Inv-loop μ-loop
 hours-at-requires c κs = search needs
@@ -26,11 +21,11 @@ hours-at-requires c κs = search needs
 add-at : tie.Need-add-at Inv-loop μ-loop
 add-at c = omega arith
 
-weekday-on-requires : tie.Need-weekday-on-requires Inv-loop μ-loop
-weekday-on-requires c κs = search needs
-
 loop-holds : tie.Need-loop-holds Inv-loop μ-loop
-loop-holds c = (none-yet _ _, c .weekday-on .ensures, omega arith, omega arith, zero-le)
+loop-holds c = (none-yet _ _, omega arith, zero-le)
+
+control-day-requires : tie.Need-control-day-requires Inv-loop μ-loop
+control-day-requires c κs = search needs
 
 six-hours-requires : tie.Need-six-hours-requires Inv-loop μ-loop
 six-hours-requires c κs = omega arith
@@ -44,9 +39,6 @@ add-count c = omega arith
 add-at-2 : tie.Need-add-at-2 Inv-loop μ-loop
 add-at-2 c = omega arith
 
-next-weekday-requires : tie.Need-next-weekday-requires Inv-loop μ-loop
-next-weekday-requires c κs = weekday-le _ _ (c .before .before .before .loop .inv .1)
-
 add-day : tie.Need-add-day Inv-loop μ-loop
 add-day c = omega arith
 
@@ -56,14 +48,12 @@ loop-less c = omega arith
 loop-again : tie.Need-loop-again Inv-loop μ-loop
 loop-again c =
     let l = c .before .before .before .before .loop in
-    let a = c .before .before .before .before .before .before .before .before in
-    let start = c .before .before .before .before .before .before .hours-at .ensures .0 in (
+    let start = c .before .before .before .before .before .hours-at .ensures .0 in
+    let is = sym (c .before .control-day .ensures) in (
       ⊎-elim
-          (λ w. rw (w .2, w .3) (control-more _ _ (l .inv .0) (control-test _ _ (l .inv .1) (l .inv .2) (w .0 .taken)) (w .1 .ensures .0 ∙ evening-there _ _ _ _ start (l .inv .3)) (w .1 .ensures .1)))
-          (λ w. rw (w .1, w .2) (other-more _ _ (l .inv .0) (control-test _ _ (l .inv .1) (l .inv .2) (w .0 .left))))
-          (c .before .if2 .came),
-      c .next-weekday .ensures ∙ weekday-next _ _ (l .inv .1),
-      holidays-next (a .args .h) _ (l .inv .2),
+          (λ w. rw (w .2, w .3) (control-more _ _ (l .inv .0) (is ∙ w .0 .taken) (w .1 .ensures .0 ∙ evening-there _ _ _ _ start (l .inv .1)) (w .1 .ensures .1)))
+          (λ w. rw (w .1, w .2) (other-more _ _ (l .inv .0) (is ∙ w .0 .left)))
+          (c .if2 .came),
       omega arith,
       omega arith,
     )
@@ -71,7 +61,7 @@ loop-again c =
 returns : tie.Need-returns Inv-loop μ-loop
 returns c =
     let l = c .before .before .loop in
-    let a = c .before .before .before .before .before .before in
+    let a = c .before .before .before .before .before in
     let end : l .day ≡ a .args .h .days = omega arith in
     (all-days _ _ (rw end at (l .inv .0)), l .inv .0 .fits)
 
@@ -83,13 +73,12 @@ by-day-spec =
     μ-loop
     hours-at-requires
     add-at
-    weekday-on-requires
     loop-holds
+    control-day-requires
     six-hours-requires
     add-counted
     add-count
     add-at-2
-    next-weekday-requires
     add-day
     loop-less
     loop-again
