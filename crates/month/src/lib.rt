@@ -1,6 +1,5 @@
 // The figures of one month: numbers 4 to 12 under a header, and the result of a month to which none applies.
 ghost use mathlib.Core.Path.{_≡_};
-ghost use Prim.Native.Nat.{ℕ};
 ghost use lib.ListN.{length};
 ghost use Rattle.month.specs.Numbers.{earlyNumber, monthNumber, monthAfter};
 use contents::figure_refusal;
