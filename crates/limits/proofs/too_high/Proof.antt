@@ -1,5 +1,8 @@
 use mathlib.Core.Path.{sym, ap, _∙_}
-use Rattle.limits.proofs.Ceilings.{capacityAbove, capacity-above}
+use borrow.Author.Tests.{lt-ltb, le-ltb}
+use Rattle.rules.specs.Refusals.{tooHigh}
+use Rattle.figures.specs.Ceilings.{capacitySaid}
+use Rattle.figures.proofs.Trying.{within-told, above-told}
 use borrow.Author.Needs.{needs}
 use Rattle.limits.proofs.too_high.Statement.{statement}
 use Rattle.limits.proofs.too_high.Tie as tie
@@ -14,10 +17,12 @@ enum-told-2 : tie.Need-enum-told-2
 enum-told-2 c = search needs
 
 returns : tie.Need-returns
-returns c = ap capacityAbove (sym (c .enum-told .given .1) ∙ c .before .before .new .ensures) ∙ capacity-above _
+unfolding tooHigh
+returns c = sym (le-ltb _ _ (within-told _ _ _ (ap capacitySaid (sym (c .enum-told .given .1)) ∙ c .before .before .new .ensures) .1))
 
 returns-2 : tie.Need-returns-2
-returns-2 c = ap capacityAbove (sym (c .enum-told2 .given .1) ∙ c .before .before .new .ensures) ∙ capacity-above _
+unfolding tooHigh
+returns-2 c = sym (lt-ltb _ _ (above-told _ _ _ (ap capacitySaid (sym (c .enum-told2 .given .1)) ∙ c .before .before .new .ensures)))
 
 pub too-high-spec : {M : Type 1} → statement M
 too-high-spec = tie.close (tie.spec new-requires enum-told enum-told-2 returns returns-2)
