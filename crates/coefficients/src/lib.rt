@@ -6,15 +6,15 @@ ghost use Rattle.rules.specs.Bands.{bandOf, thousandths};
 ghost use Rattle.rules.specs.Coefficients.{share};
 use bands::factor;
 use bands::thousandths;
-use figures::less;
+use figures::Tenths;
 use figures::nearest;
 use figures::share;
 
 // D of k1.
-pub fn overuse(counted: u64, count: u64, deductible: u32) -> u64
-    ensures { λ r. ⌜ r ≡ average counted count - deductible ⌝ }
+pub fn overuse(counted: Tenths, count: u64, deductible: Tenths) -> Tenths
+    ensures { λ r. ⌜ r .0 ≡ average (counted .0) count - deductible .0 ⌝ }
 {
-    less(nearest(counted, count), deductible as u64)
+    Tenths(nearest(counted.0, count)).less(deductible)
 }
 
 // n × D of k1, in hundredths of a megawatt.

@@ -15,6 +15,7 @@ use Rattle.laws.proofs.Range.{sum-none, sum-more, sum-fold, sum-same}
 use Rattle.laws.proofs.Fields.{read-part}
 use Rattle.laws.proofs.ControlHours.{evening, control-by-day, count-by-day}
 use Rattle.places.proofs.Hours.{hour-there}
+use Rattle.figures.specs.Sums.{tenths}
 use Rattle.control.specs.declared.Control.{Control}
 use Rattle.control.specs.Control.{controlOf}
 
@@ -50,30 +51,13 @@ module _ (h : Header) (series : ℕ → ℕ) where
         few = omega arith;
       }
 
-  pub all-days : {counted count : ℕ} → SoFar h series (h .days) counted count → _≡_ {A = Control} (record { counted = counted; count = count }) (controlOf h series)
+  pub all-days : {counted count : ℕ} → SoFar h series (h .days) counted count → _≡_ {A = Control} (record { counted = tenths counted; count = count }) (controlOf h series)
   unfolding controlSum
   all-days k = rw (k .sum-is ∙ sym (control-by-day h series (h .days)), k .count-is ∙ sym (count-by-day h))
 
--- The outside use of six hours, read in the n bytes from a place on.
-abbrev readIn : List ℕ → ℕ → ℕ → ℕ → ℕ
-readIn s at n k = bigEndian 4 (take n (drop at s)) k
-
-pub six-read : (s : List ℕ) (at n : ℕ) → 72 ≤ n → {a b c d e f : ℕ}
-    → a ≡ readIn s at n 8 → b ≡ readIn s at n 20 → c ≡ readIn s at n 32 → d ≡ readIn s at n 44 → e ≡ readIn s at n 56 → f ≡ readIn s at n 68
-    → a + b + c + d + e + f ≡ sum (λ t. hourOf s (at + 12 * t) .outside) 6
-unfolding sum
-six-read s at n l ea eb ec ed ee ef =
-    let there : (t : ℕ) → t < 6 → readIn s at n (12 * t + 8) ≡ hourOf s (at + 12 * t) .outside
-    = λ t m. read-part 4 n at (12 * t + 8) s (omega arith) ∙ ap (bigEndian 4 s) (omega arith) in
-    omega (
-      arith,
-      ea ∙ there 0 (omega arith),
-      eb ∙ there 1 (omega arith),
-      ec ∙ there 2 (omega arith),
-      ed ∙ there 3 (omega arith),
-      ee ∙ there 4 (omega arith),
-      ef ∙ there 5 (omega arith),
-    )
+-- The outside use of an hour, read in the bytes that are lent from a place on.
+pub outside-read : (s : List ℕ) (at n t : ℕ) → 12 * t + 12 ≤ n → bigEndian 4 (take n (drop at s)) (12 * t + 8) ≡ hourOf s (at + 12 * t) .outside
+outside-read s at n t l = read-part 4 n at (12 * t + 8) s (omega arith) ∙ ap (bigEndian 4 s) (omega arith)
 
 -- From the place of a day's hour 17 on they are the day's evening.
 pub evening-there : (s : List ℕ) (h : Header) (p day : ℕ) {start at : ℕ} → start ≡ hourAt h p 0 → at ≡ start + 204 + 288 * day

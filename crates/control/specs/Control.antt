@@ -7,13 +7,14 @@ use lib.Dec.{ltb}
 use Rattle.rules.specs.declared.Header.{Header}
 use Rattle.rules.specs.Sheet.{hourAt, hoursWidth, monthUnder}
 use Rattle.rules.specs.ControlHours.{controlSum, controlCount}
+use Rattle.figures.specs.Sums.{tenths}
 use Rattle.control.specs.declared.Control.{Control}
 
 -- The sum of an hourly series over the control hours, and their count.
 abbrev pub controlOf : Header → (ℕ → ℕ) → Control
-controlOf h series = record { counted = controlSum h series; count = controlCount h }
+controlOf h series = record { counted = tenths (controlSum h series); count = controlCount h }
 
 -- Of producer p in a sheet; nothing where the sheet ends before the producer's hours do.
 unfoldable pub controlIn : Header → List ℕ → ℕ → Control
 controlIn h s p =
-    cond (ltb (length s) (hourAt h p 0 + hoursWidth h)) (record { counted = 0; count = 0 }) (controlOf h (monthUnder h s .producer p .outsideUse))
+    cond (ltb (length s) (hourAt h p 0 + hoursWidth h)) (record { counted = tenths 0; count = 0 }) (controlOf h (monthUnder h s .producer p .outsideUse))

@@ -7,6 +7,7 @@ use borrow.Author.Tests.{lt-ltb, le-ltb}
 use Rattle.rules.specs.declared.Header.{Header}
 use Rattle.rules.specs.Month.{hours}
 use Rattle.rules.specs.Sheet.{hourAt, hoursWidth, monthUnder}
+use Rattle.figures.specs.Sums.{tenths}
 use Rattle.hours.specs.declared.K4.{K4}
 use Rattle.hours.specs.Sums.{K4Before, k4Of, k4In}
 
@@ -15,7 +16,7 @@ module _ (h : Header) (s : List ℕ) (p S : ℕ) where
   unfolding k4In
   k4-inside l = rw (le-ltb (length s) (hourAt h p 0 + hoursWidth h) l)
 
-  pub k4-short : length s < hourAt h p 0 + hoursWidth h → k4In h s p S ≡ record { asked = 0; met = 0 }
+  pub k4-short : length s < hourAt h p 0 + hoursWidth h → k4In h s p S ≡ record { asked = tenths 0; met = tenths 0 }
   unfolding k4In
   k4-short l = rw (lt-ltb (length s) (hourAt h p 0 + hoursWidth h) l)
 

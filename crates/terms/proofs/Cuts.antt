@@ -15,12 +15,12 @@ use Rattle.rules.specs.Limits.{HeaderLimits}
 use Rattle.rules.specs.Cut.{ownVolume, supportVolume, bilateralVolume, summedCapacity, excess, leftToCut}
 use Rattle.laws.proofs.Range.{sum-none}
 use Rattle.volumes.specs.declared.Volumes.{Volumes}
-use Rattle.volumes.specs.Volumes.{volumesOf, noVolumes}
+use Rattle.volumes.specs.Volumes.{mostVolume, volumesOf, noVolumes}
 use Rattle.terms.specs.declared.Terms.{Terms}
 use Rattle.terms.specs.Terms.{termsAt, noTerms, zeroTerms, withTerms, termsOf, Known}
 
 pub summed-is : (m : Month) (p : ℕ) (v : Volumes) (d : ℕ) → v ≡ volumesOf m p → d ≡ m .producer p .deductible
-    → v .support + v .bilateral + d ≡ summedCapacity m p
+    → v .support .0 + v .bilateral .0 + d ≡ summedCapacity m p
 unfolding summedCapacity
 summed-is m p v d e q = rw (e, q)
 
@@ -28,7 +28,7 @@ summed-is m p v d e q = rw (e, q)
 abbrev pub VolumesKnown : Month → List Volumes → Type 0
 VolumesKnown m vs =
     ((length vs ≡ 6) × ((p : ℕ) → p < 6 → getD vs p noVolumes ≡ volumesOf m p))
-    × ((p : ℕ) → p < 6 → (getD vs p noVolumes .support ≤ 1095216660225) × (getD vs p noVolumes .bilateral ≤ 1095216660225))
+    × ((p : ℕ) → p < 6 → (getD vs p noVolumes .support .0 ≤ mostVolume) × (getD vs p noVolumes .bilateral .0 ≤ mostVolume))
 
 -- Before the first row all of the excess is left.
 pub left-first : (m : Month) (p : ℕ) → leftToCut m p 0 ≡ summedCapacity m p - m .producer p .ownNeeds - m .producer p .attested

@@ -10,19 +10,20 @@ use Rattle.rules.specs.Month.{Month}
 use Rattle.rules.specs.Sheet.{sheetLength, monthUnder}
 use Rattle.rules.specs.Cut.{leftToCut}
 use Rattle.rules.specs.Coefficients.{coefficients}
+use Rattle.figures.specs.Sums.{tenths}
 use Rattle.terms.specs.declared.Terms.{Terms}
 
 -- Producer p when row j's turn comes. [Cut; Coefficients]
 abbrev pub termsAt : Month → ℕ → ℕ → Terms
-termsAt m p j = record { excess = leftToCut m p j; ks = coefficients m p }
+termsAt m p j = record { excess = tenths (leftToCut m p j); ks = coefficients m p }
 
 -- Past the end of an array of terms.
 abbrev pub noTerms : Terms
-noTerms = record { excess = 0; ks = [] }
+noTerms = record { excess = tenths 0; ks = [] }
 
 -- In the array, where there is no producer: nothing to cut, and coefficients of 0.
 abbrev pub zeroTerms : Terms
-zeroTerms = record { excess = 0; ks = replicate 10 0 }
+zeroTerms = record { excess = tenths 0; ks = replicate 10 0 }
 
 -- How many producers of a sheet have terms: at most six, and none in a month of more than 31 days or in a sheet that ends too soon.
 unfoldable pub withTerms : Header → List ℕ → ℕ

@@ -8,7 +8,7 @@ ghost use Rattle.rules.specs.ControlHours.{average};
 ghost use Rattle.rules.specs.Bands.{bandOf, thousandths};
 ghost use Rattle.rules.specs.Cut.{summedCapacity};
 ghost use Rattle.rules.specs.Coefficients.{share, lessPenalty, coefficients};
-ghost use Rattle.volumes.specs.Volumes.{volumesOf};
+ghost use Rattle.volumes.specs.Volumes.{mostVolume, volumesOf};
 ghost use Rattle.hours.specs.Sums.{k4Of};
 ghost use Rattle.control.specs.Control.{controlOf};
 ghost use Rattle.terms.specs.Terms.{termsAt, termsOf, noTerms, withTerms};
@@ -21,6 +21,7 @@ use control::control_hours;
 use fields::half;
 use fields::word;
 use figures::ONE;
+use figures::Tenths;
 use figures::less;
 use figures::nearest;
 use hours::K4;
@@ -31,9 +32,9 @@ use rules::Header;
 use volumes::Volumes;
 use volumes::row_volumes;
 
-// What is left to cut of a producer's rows, in tenths of a megawatt, and k1 to k10, in millionths.
+// What is left to cut of a producer's rows, and k1 to k10, in millionths.
 pub struct Terms {
-    pub excess: u64,
+    pub excess: Tenths,
     pub ks: [u64; 10],
 }
 
@@ -43,55 +44,58 @@ pub struct AllTerms {
 }
 
 // 1 - n × D / T.
-fn less_penalty(support: u64, penalty: u64) -> u64
-    requires { ⌜ support ≤ 1095216660225 ⌝ }
-    ensures { λ r. ⌜ r ≡ lessPenalty support penalty ⌝ }
+fn less_penalty(support: Tenths, penalty: u64) -> u64
+    requires { ⌜ support .0 ≤ mostVolume ⌝ }
+    ensures { λ r. ⌜ r ≡ lessPenalty (support .0) penalty ⌝ }
 {
-    if support == 0 {
+    if support.0 == 0 {
         if penalty == 0 {
             return ONE;
         }
         return 0;
     }
-    let whole = 10 * support;
+    let whole = 10 * support.0;
     nearest(less(whole, penalty) * ONE, whole)
 }
 
 // k1.
-fn k1_of(counted: u64, count: u64, deductible: u32, support: u64) -> u64
-    requires { ⌜ (counted ≤ 4294967295 * count) × (support ≤ 1095216660225) ⌝ }
+fn k1_of(control: Control, deductible: u32, support: Tenths) -> u64
+    requires { ⌜ (control .counted .0 ≤ 4294967295 * control .count) × (support .0 ≤ mostVolume) ⌝ }
     ensures { λ r. ⌜ r
-        ≡ lessPenalty support
-        (bandOf (thousandths (average counted count - deductible) deductible) * (average counted count - deductible)) ⌝ }
+        ≡ lessPenalty (support .0)
+        (bandOf (thousandths (average (control .counted .0) (control .count) - deductible) deductible)
+        * (average (control .counted .0) (control .count) - deductible)) ⌝ }
 {
-    let over = overuse(counted, count, deductible) as u32;
-    less_penalty(support, penalty(over, deductible))
+    let over = overuse(control.counted, control.count, Tenths::stated(deductible));
+    less_penalty(support, penalty(over.0 as u32, deductible))
 }
 
 // k4.
 fn k4_of(sums: K4) -> u64
-    requires { ⌜ sums .met ≤ 3195455667480 ⌝ }
-    ensures { λ r. ⌜ r ≡ share (sums .met) (sums .asked) ⌝ }
+    requires { ⌜ sums .met .0 ≤ 3195455667480 ⌝ }
+    ensures { λ r. ⌜ r ≡ share (sums .met .0) (sums .asked .0) ⌝ }
 {
-    if sums.asked == 0 {
+    let asked = sums.asked;
+    let met = sums.met;
+    if asked.0 == 0 {
         return ONE;
     }
-    nearest(sums.met * ONE, sums.asked)
+    nearest(met.0 * ONE, asked.0)
 }
 
 // k1 to k10 of producer p, whose figures begin at a place.
 fn ks_of(s: &[u8], h: Header, p: u8, at: usize, v: Volumes, sums: K4, control: Control) -> [u64; 10]
     requires { ⌜ (h .days ≤ 31) × (at ≡ producerAt h p) × (at ≤ 20000000) ⌝ }
-    requires { ⌜ (v ≡ volumesOf (monthUnder h (now s)) p) × (v .support ≤ 1095216660225) ⌝ }
+    requires { ⌜ (v ≡ volumesOf (monthUnder h (now s)) p) × (v .support .0 ≤ mostVolume) ⌝ }
     requires { ⌜ (sums ≡ k4Of h (monthUnder h (now s) .producer p) (summedCapacity (monthUnder h (now s)) p))
-        × (sums .met ≤ 4294967295 * hours h) ⌝ }
+        × (sums .met .0 ≤ 4294967295 * hours h) ⌝ }
     requires { ⌜ (control ≡ controlOf h (monthUnder h (now s) .producer p .outsideUse))
-        × (control .counted ≤ 4294967295 * control .count) ⌝ }
+        × (control .counted .0 ≤ 4294967295 * control .count) ⌝ }
     ensures { λ r. ⌜ r ≡ coefficients (monthUnder h (now (s .entry))) p ⌝ }
 {
     let hours = 24 * (h.days as u32);
     [
-        k1_of(control.counted, control.count, word(s, at + 4), v.support),
+        k1_of(control, word(s, at + 4), v.support),
         bids(hours, half(s, at + 12), half(s, at + 14)),
         word(s, at + 18) as u64,
         k4_of(sums),
@@ -104,16 +108,32 @@ fn ks_of(s: &[u8], h: Header, p: u8, at: usize, v: Volumes, sums: K4, control: C
     ]
 }
 
+// S: T + B + deductible.
+fn summed_of(v: Volumes, deductible: u32) -> Tenths
+    requires { ⌜ (v .support .0 ≤ mostVolume) × (v .bilateral .0 ≤ mostVolume) ⌝ }
+    ensures { λ r. ⌜ r .0 ≡ v .support .0 + v .bilateral .0 + deductible ⌝ }
+{
+    let support = v.support;
+    let bilateral = v.bilateral;
+    support.plus(bilateral).plus(Tenths::stated(deductible))
+}
+
+// The excess: S less own needs, less attested capacity.
+fn excess_of(summed: Tenths, own: u32, attested: u32) -> Tenths
+    ensures { λ r. ⌜ r .0 ≡ summed .0 - own - attested ⌝ }
+{
+    summed.less(Tenths::stated(own)).less(Tenths::stated(attested))
+}
+
 // Producer p's excess and coefficients, before the first row.
 fn terms_of(s: &[u8], h: Header, p: u8, v: Volumes) -> Terms
     requires { ⌜ (h .days ≤ 31) × (hourAt h p 0 + hoursWidth h ≤ length (now s)) ⌝ }
-    requires { ⌜ (v ≡ volumesOf (monthUnder h (now s)) p) × (v .support ≤ 1095216660225) × (v .bilateral ≤ 1095216660225) ⌝ }
+    requires { ⌜ (v ≡ volumesOf (monthUnder h (now s)) p) × (v .support .0 ≤ mostVolume) × (v .bilateral .0 ≤ mostVolume) ⌝ }
     ensures { λ r. ⌜ r ≡ termsAt (monthUnder h (now (s .entry))) p 0 ⌝ }
 {
     let at = producer_at(h, p);
-    let summed = v.support + v.bilateral + word(s, at + 4) as u64;
-    let own = less(summed, word(s, at + 8) as u64);
-    let excess = less(own, word(s, at) as u64);
+    let summed = summed_of(v, word(s, at + 4));
+    let excess = excess_of(summed, word(s, at + 8), word(s, at));
     let sums = k4_sums(s, h, p, summed);
     let control = control_hours(s, h, p);
     let ks = ks_of(s, h, p, at, v, sums, control);
@@ -139,7 +159,7 @@ pub fn all_terms(s: &[u8], h: Header) -> AllTerms
     ensures { λ r. ⌜ (length (r .of) ≡ 6) × ((p : ℕ) → p < 6 → getD (r .of) p noTerms ≡ termsOf h (now (s .entry)) p) ⌝ }
 {
     let none = Terms {
-        excess: 0,
+        excess: Tenths(0),
         ks: [0; 10],
     };
     let mut of = [none; 6];

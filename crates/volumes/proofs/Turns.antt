@@ -15,11 +15,12 @@ use Rattle.rules.specs.Month.{Month}
 use Rattle.rules.specs.Cut.{owns, support, bilateral, ownSupport, ownBilateral}
 use Rattle.laws.proofs.Range.{sum-none, sum-more, when-le}
 use Rattle.volumes.specs.declared.Volumes.{Volumes}
-use Rattle.volumes.specs.Volumes.{noVolumes, withRow}
+use Rattle.figures.specs.Sums.{tenths}
+use Rattle.volumes.specs.Volumes.{mostVolume, noVolumes, withRow}
 
 -- T and B over the first j rows.
 abbrev upTo : Month → ℕ → ℕ → Volumes
-upTo m p j = record { support = sum (ownSupport m p) j; bilateral = sum (ownBilateral m p) j }
+upTo m p j = record { support = tenths (sum (ownSupport m p) j); bilateral = tenths (sum (ownBilateral m p) j) }
 
 -- Six producers' volumes over the first j rows.
 pub record Counted (m : Month) (j : ℕ) (of : List Volumes) : Type 0 where
@@ -28,7 +29,7 @@ pub record Counted (m : Month) (j : ℕ) (of : List Volumes) : Type 0 where
   pub fits : (p : ℕ) → (sum (ownSupport m p) j ≤ 4294967295 * j) × (sum (ownBilateral m p) j ≤ 4294967295 * j)
 
 pub counted-fits : {m : Month} {j : ℕ} {of : List Volumes} → Counted m j of → j ≤ 255 → (p : ℕ) → p < 6
-    → (getD of p noVolumes .support ≤ 1095216660225) × (getD of p noVolumes .bilateral ≤ 1095216660225)
+    → (getD of p noVolumes .support .0 ≤ mostVolume) × (getD of p noVolumes .bilateral .0 ≤ mostVolume)
 counted-fits k few p l = rw (k .each p l) (omega (arith, k .fits p .0), omega (arith, k .fits p .1))
 
 pub counted-none : (m : Month) → Counted m 0 (replicate 6 noVolumes)

@@ -6,20 +6,25 @@ use Rattle.rules.specs.declared.Row.{Row}
 use Rattle.rules.specs.Range.{when}
 use Rattle.rules.specs.Month.{Month}
 use Rattle.rules.specs.Cut.{supportVolume, bilateralVolume}
+use Rattle.figures.specs.Sums.{tenths}
 use Rattle.volumes.specs.declared.Volumes.{Volumes}
+
+-- What a producer's rows of one kind come to at most, whatever the bytes: 255 rows of the largest volume that four bytes hold.
+abbrev pub mostVolume : ℕ
+mostVolume = 1095216660225
 
 -- T and B.
 abbrev pub volumesOf : Month → ℕ → Volumes
-volumesOf m p = record { support = supportVolume m p; bilateral = bilateralVolume m p }
+volumesOf m p = record { support = tenths (supportVolume m p); bilateral = tenths (bilateralVolume m p) }
 
 -- Before the first row, and past the end of an array.
 abbrev pub noVolumes : Volumes
-noVolumes = record { support = 0; bilateral = 0 }
+noVolumes = record { support = tenths 0; bilateral = tenths 0 }
 
 -- With a row of the producer more.
 unfoldable pub withRow : Volumes → Row → Volumes
 withRow v r =
     record {
-      support = v .support + when (eqb (r .consumer) 255) (r .volume);
-      bilateral = v .bilateral + when (not (eqb (r .consumer) 255)) (r .volume);
+      support = tenths (v .support .0 + when (eqb (r .consumer) 255) (r .volume));
+      bilateral = tenths (v .bilateral .0 + when (not (eqb (r .consumer) 255)) (r .volume));
     }

@@ -3,15 +3,16 @@ ghost use mathlib.Core.Path.{_≡_};
 ghost use Prim.Native.Nat.{ℕ, _≤_, _<_};
 ghost use lib.ListN.{length, getD};
 ghost use Rattle.rules.specs.Sheet.{monthUnder};
-ghost use Rattle.volumes.specs.Volumes.{volumesOf, noVolumes, withRow};
+ghost use Rattle.volumes.specs.Volumes.{mostVolume, volumesOf, noVolumes, withRow};
+use figures::Tenths;
 use rules::Header;
 use rules::Row;
 use sheet::row;
 
-// The volumes of a producer's support rows (T) and bilateral rows (B), in tenths of a megawatt.
+// The volumes of a producer's support rows (T) and bilateral rows (B).
 pub struct Volumes {
-    pub support: u64,
-    pub bilateral: u64,
+    pub support: Tenths,
+    pub bilateral: Tenths,
 }
 
 // The volumes of six producers, as many as a sheet may have.
@@ -21,19 +22,21 @@ pub struct AllVolumes {
 
 // A producer's volumes with one of its rows more.
 fn with_row(v: Volumes, r: Row) -> Volumes
-    requires { ⌜ (v .support ≤ 1095216660225) × (v .bilateral ≤ 1095216660225) ⌝ }
+    requires { ⌜ (v .support .0 ≤ mostVolume) × (v .bilateral .0 ≤ mostVolume) ⌝ }
     ensures { λ w. ⌜ w ≡ withRow v r ⌝ }
 {
-    let volume = r.volume as u64;
+    let volume = Tenths::stated(r.volume);
+    let support = v.support;
+    let bilateral = v.bilateral;
     if r.consumer == 255 {
         Volumes {
-            support: v.support + volume,
-            bilateral: v.bilateral,
+            support: support.plus(volume),
+            bilateral,
         }
     } else {
         Volumes {
-            support: v.support,
-            bilateral: v.bilateral + volume,
+            support,
+            bilateral: bilateral.plus(volume),
         }
     }
 }
@@ -41,11 +44,11 @@ fn with_row(v: Volumes, r: Row) -> Volumes
 // T and B of six producers. A row of another producer counts for none.
 pub fn row_volumes(s: &[u8], h: Header) -> AllVolumes
     ensures { λ r. ⌜ (length (r .of) ≡ 6) × ((p : ℕ) → p < 6 → getD (r .of) p noVolumes ≡ volumesOf (monthUnder h (now (s .entry))) p) ⌝ }
-    ensures fits { λ r. ⌜ ((p : ℕ) → p < 6 → (getD (r .of) p noVolumes .support ≤ 1095216660225) × (getD (r .of) p noVolumes .bilateral ≤ 1095216660225)) ⌝ }
+    ensures fits { λ r. ⌜ ((p : ℕ) → p < 6 → (getD (r .of) p noVolumes .support .0 ≤ mostVolume) × (getD (r .of) p noVolumes .bilateral .0 ≤ mostVolume)) ⌝ }
 {
     let none = Volumes {
-        support: 0,
-        bilateral: 0,
+        support: Tenths(0),
+        bilateral: Tenths(0),
     };
     let mut of = [none; 6];
     let mut j: u8 = 0;

@@ -1,16 +1,18 @@
-use borrow.Author.Needs.{needs}
 use native.Mathlib.Omega.{arith}
-use mathlib.Core.Path.{_≡_, sym, _∙_}
+use mathlib.Core.Path.{_≡_, sym, ap, _∙_}
 use mathlib.Core.Logic.{⊎-elim}
 use Prim.Native.Nat.{_+_, _-_, _*_, _≤_, zero-le}
 use Rattle.rules.specs.Sheet.{monthUnder}
+use Rattle.figures.specs.Sums.{tenths}
+use Rattle.figures.proofs.Adding.{added-exact}
 use Rattle.control.proofs.Days.{evening-there, SoFar, none-yet, control-more, other-more, all-days}
+use borrow.Author.Needs.{needs}
 use Rattle.control.proofs.by_day.Statement.{statement}
 use Rattle.control.proofs.by_day.Tie as tie
 
 abbrev Inv-loop : tie.InvT-loop
 Inv-loop s h p at₀ counted₀ count₀ day₀ at counted count day =
-    SoFar h (monthUnder h s .producer p .outsideUse) day counted count × (at ≡ at₀ + 288 * day) × (day ≤ h .days)
+    SoFar h (monthUnder h s .producer p .outsideUse) day (counted .0) count × (at ≡ at₀ + 288 * day) × (day ≤ h .days)
 
 abbrev μ-loop : tie.MeasureT-loop
 μ-loop s h p at₀ counted₀ count₀ day₀ at counted count day = h .days - day
@@ -19,7 +21,7 @@ hours-at-requires : tie.Need-hours-at-requires Inv-loop μ-loop
 hours-at-requires c κs = search needs
 
 add-at : tie.Need-add-at Inv-loop μ-loop
-add-at c = omega arith
+add-at c = search needs
 
 loop-holds : tie.Need-loop-holds Inv-loop μ-loop
 loop-holds c = (none-yet _ _, omega arith, zero-le)
@@ -28,22 +30,22 @@ control-day-requires : tie.Need-control-day-requires Inv-loop μ-loop
 control-day-requires c κs = search needs
 
 six-hours-requires : tie.Need-six-hours-requires Inv-loop μ-loop
-six-hours-requires c κs = omega arith
+six-hours-requires c κs = search needs
 
-add-counted : tie.Need-add-counted Inv-loop μ-loop
-add-counted c = omega arith
+plus-requires : tie.Need-plus-requires Inv-loop μ-loop
+plus-requires c κs = search needs
 
 add-count : tie.Need-add-count Inv-loop μ-loop
-add-count c = omega arith
+add-count c = search needs
 
 add-at-2 : tie.Need-add-at-2 Inv-loop μ-loop
-add-at-2 c = omega arith
+add-at-2 c = search needs
 
 add-day : tie.Need-add-day Inv-loop μ-loop
-add-day c = omega arith
+add-day c = search needs
 
 loop-less : tie.Need-loop-less Inv-loop μ-loop
-loop-less c = omega arith
+loop-less c = search needs
 
 loop-again : tie.Need-loop-again Inv-loop μ-loop
 loop-again c =
@@ -51,9 +53,10 @@ loop-again c =
     let start = c .before .before .before .before .before .hours-at .ensures .0 in
     let is = sym (c .before .control-day .ensures) in (
       ⊎-elim
-          (λ w. rw (w .2, w .3) (control-more _ _ (l .inv .0) (is ∙ w .0 .taken) (w .1 .ensures .0 ∙ evening-there _ _ _ _ start (l .inv .1)) (w .1 .ensures .1)))
-          (λ w. rw (w .1, w .2) (other-more _ _ (l .inv .0) (is ∙ w .0 .left)))
-          (c .if2 .came),
+      (λ w. rw (w .3, w .4, ap tenths (w .2 .ensures ∙ added-exact _ _ (omega (arith, l .inv .0 .fits, l .inv .0 .few, w .1 .ensures .1))))
+          (control-more _ _ (l .inv .0) (is ∙ w .0 .taken) (w .1 .ensures .0 ∙ evening-there _ _ _ _ start (l .inv .1)) (w .1 .ensures .1)))
+      (λ w. rw (w .1, w .2) (other-more _ _ (l .inv .0) (is ∙ w .0 .left)))
+      (c .if2 .came),
       omega arith,
       omega arith,
     )
@@ -76,7 +79,7 @@ by-day-spec =
     loop-holds
     control-day-requires
     six-hours-requires
-    add-counted
+    plus-requires
     add-count
     add-at-2
     add-day

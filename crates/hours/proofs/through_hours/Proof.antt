@@ -10,7 +10,7 @@ use Rattle.hours.proofs.through_hours.Statement.{statement}
 use Rattle.hours.proofs.through_hours.Tie as tie
 
 abbrev Inv-loop : tie.InvT-loop
-Inv-loop s h p summed k₀ q₀ k q = K4Before (monthUnder h s .producer p) summed (6 * q) k × (q ≤ 4 * h .days)
+Inv-loop s h p summed k₀ q₀ k q = K4Before (monthUnder h s .producer p) (summed .0) (6 * q) k × (q ≤ 4 * h .days)
 
 abbrev μ-loop : tie.MeasureT-loop
 μ-loop s h p summed k₀ q₀ k q = 4 * h .days - q

@@ -1,49 +1,59 @@
-use borrow.Author.Needs.{needs}
 use native.Mathlib.Omega.{arith}
-use mathlib.Core.Path.{_∙_}
+use mathlib.Core.Path.{_≡_, ap, _∙_}
+use Prim.Native.Nat.{ℕ, _+_, min}
 use Rattle.laws.proofs.Range.{sum-fold}
+use Rattle.figures.proofs.Adding.{added-exact}
 use Rattle.hours.proofs.Turns.{asked-there, met-there}
+use borrow.Author.Needs.{needs}
 use Rattle.hours.proofs.with_hour.Statement.{statement}
 use Rattle.hours.proofs.with_hour.Tie as tie
 
 hour-requires : tie.Need-hour-requires
 hour-requires c κs = search needs
 
-cast-smaller : tie.Need-cast-smaller
-cast-smaller c = search needs
+stated-requires : tie.Need-stated-requires
+stated-requires c κs = search needs
 
 smaller-requires : tie.Need-smaller-requires
 smaller-requires c κs = search needs
 
-cast-smaller-2 : tie.Need-cast-smaller-2
-cast-smaller-2 c = search needs
+stated-requires-2 : tie.Need-stated-requires-2
+stated-requires-2 c κs = search needs
 
 smaller-requires-2 : tie.Need-smaller-requires-2
 smaller-requires-2 c κs = search needs
 
-add-t10 : tie.Need-add-t10
-add-t10 c = omega arith
+plus-requires : tie.Need-plus-requires
+plus-requires c κs = search needs
 
-add-t11 : tie.Need-add-t11
-add-t11 c = omega arith
+plus-requires-2 : tie.Need-plus-requires-2
+plus-requires-2 c κs = search needs
 
 returns : tie.Need-returns
 returns c =
-    let k = c .before .before .before .before .before .before .before .before .pre .1 in
-    let x = c .before .before .before .before .before .before .hour .ensures in
-    let m = c .before .before .before .before .smaller .ensures ∙ asked-there _ _ _ _ x _ in
-    let met = c .before .before .smaller2 .ensures ∙ met-there _ _ _ _ x _ m in
-    (sum-fold _ _ (k .0) m, sum-fold _ _ (k .1) met, omega arith, omega arith)
+    let n = c .before .before in
+    let m = n .before .before in
+    let s = m .before .before .before .before in
+    let k = s .pre .1 in
+    let x = m .before .before .hour in
+    let asked : m .smaller .result .0 ≡ min (s .args .summed .0) (m .before .stated .result .0) = m .smaller .ensures in
+    let met : n .smaller2 .result .0 ≡ min (m .smaller .result .0) (n .before .stated2 .result .0) = n .smaller2 .ensures in
+    let possible = m .before .stated .ensures in
+    let working = n .before .stated2 .ensures in
+    let a = c .before .plus .ensures ∙ added-exact (s .args .k .asked .0) (m .smaller .result .0) (omega (arith, s .good)) in
+    let b = c .plus2 .ensures ∙ added-exact (s .args .k .met .0) (n .smaller2 .result .0) (omega (arith, s .good)) in
+    let first = asked ∙ ap (λ (v : ℕ). min (s .args .summed .0) v) (possible .0) ∙ asked-there _ _ _ _ (x .ensures) _ in
+    (a ∙ sum-fold _ _ (k .0) first, b ∙ sum-fold _ _ (k .1) (met ∙ ap (λ (v : ℕ). min (m .smaller .result .0) v) (working .0) ∙ met-there _ _ _ _ (x .ensures) _ first), omega (arith, a), omega (arith, b))
 
 pub with-hour-spec : {M : Type 1} → statement M
 with-hour-spec =
     tie.close
     (tie.spec
     hour-requires
-    cast-smaller
+    stated-requires
     smaller-requires
-    cast-smaller-2
+    stated-requires-2
     smaller-requires-2
-    add-t10
-    add-t11
+    plus-requires
+    plus-requires-2
     returns)

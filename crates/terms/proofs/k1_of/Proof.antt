@@ -1,15 +1,25 @@
 use native.Mathlib.Omega.{arith}
-use borrow.Author.Needs.{needs}
+use mathlib.Core.Path.{_≡_, ap, _∙_}
+use Prim.Native.Nat.{ℕ, _-_}
+use Rattle.rules.specs.ControlHours.{average}
 use Rattle.terms.proofs.Fits.{average-fits}
+use borrow.Author.Needs.{needs}
 use Rattle.terms.proofs.k1_of.Statement.{statement}
 use Rattle.terms.proofs.k1_of.Tie as tie
+
+stated-requires : tie.Need-stated-requires
+stated-requires c κs = search needs
+
+-- D, from the figures that were handed over.
+over : (c : tie.After-overuse) → c .overuse .result .0 ≡ average (c .before .before .args .control .counted .0) (c .before .before .args .control .count) - c .before .before .args .deductible
+over c = c .overuse .ensures ∙ ap (λ (x : ℕ). average (c .before .before .args .control .counted .0) (c .before .before .args .control .count) - x) (c .before .stated .ensures .0)
 
 overuse-requires : tie.Need-overuse-requires
 overuse-requires c κs = search needs
 
-cast-over : tie.Need-cast-over
-cast-over c =
-    record { fits = omega (arith, c .overuse .ensures, average-fits _ (c .before .pre .0)) }
+cast-penalty : tie.Need-cast-penalty
+cast-penalty c =
+    record { fits = omega (arith, over (c .before), average-fits _ (c .before .before .before .pre .0)) }
 
 penalty-requires : tie.Need-penalty-requires
 penalty-requires c κs = search needs
@@ -18,7 +28,15 @@ less-penalty-requires : tie.Need-less-penalty-requires
 less-penalty-requires c κs = search needs
 
 returns : tie.Need-returns
-returns c = rw (c .less-penalty .ensures, c .before .penalty .ensures, c .before .before .overuse .ensures)
+returns c = rw (c .less-penalty .ensures, c .before .penalty .ensures, over (c .before .before .before))
 
 pub k1-of-spec : {M : Type 1} → statement M
-k1-of-spec = tie.close (tie.spec overuse-requires cast-over penalty-requires less-penalty-requires returns)
+k1-of-spec =
+    tie.close
+    (tie.spec
+    stated-requires
+    overuse-requires
+    cast-penalty
+    penalty-requires
+    less-penalty-requires
+    returns)

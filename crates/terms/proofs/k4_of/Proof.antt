@@ -1,9 +1,9 @@
 use native.Mathlib.Omega.{arith}
 use mathlib.Core.Path.{sym, _∙_}
 use Prim.Native.Nat.{_<_}
-use borrow.Author.Needs.{needs}
 use Rattle.rules.specs.Coefficients.{share}
 use Rattle.laws.proofs.Coefficients.{share-some}
+use borrow.Author.Needs.{needs}
 use Rattle.terms.proofs.k4_of.Statement.{statement}
 use Rattle.terms.proofs.k4_of.Tie as tie
 
@@ -19,7 +19,7 @@ nearest-requires c κs = search needs
 
 returns-2 : tie.Need-returns-2
 returns-2 c =
-    let some : 0 < c .before .before .before .before .args .sums .asked = omega arith in
+    let some : 0 < c .before .before .before .before .before .before .args .sums .asked .0 = omega (arith, c .before .before .if1 .left) in
     c .nearest .ensures ∙ sym (share-some _ _ some)
 
 pub k4-of-spec : {M : Type 1} → statement M

@@ -27,7 +27,7 @@ nearest-requires c κs = search needs
 
 returns-3 : tie.Need-returns-3
 returns-3 c =
-    let some : 0 < c .before .before .before .args .support = omega arith in
+    let some : 0 < c .before .before .before .before .before .args .support .0 = omega arith in
     rw (c .nearest .ensures, c .before .less .ensures, penalty-of-some _ _ some)
 
 pub less-penalty-spec : {M : Type 1} → statement M
