@@ -122,7 +122,9 @@ fn summed_of(v: Volumes, deductible: u32) -> Tenths
 fn excess_of(summed: Tenths, own: u32, attested: u32) -> Tenths
     ensures { λ r. ⌜ r .0 ≡ summed .0 - own - attested ⌝ }
 {
-    summed.less(Tenths::stated(own)).less(Tenths::stated(attested))
+    summed
+        .less(Tenths::stated(own))
+        .less(Tenths::stated(attested))
 }
 
 // Producer p's excess and coefficients, before the first row.

@@ -53,10 +53,10 @@ loop-again c =
     let start = c .before .before .before .before .before .hours-at .ensures .0 in
     let is = sym (c .before .control-day .ensures) in (
       ⊎-elim
-      (λ w. rw (w .3, w .4, ap tenths (w .2 .ensures ∙ added-exact _ _ (omega (arith, l .inv .0 .fits, l .inv .0 .few, w .1 .ensures .1))))
+          (λ w. rw (w .3, w .4, ap tenths (w .2 .ensures ∙ added-exact _ _ (omega (arith, l .inv .0 .fits, l .inv .0 .few, w .1 .ensures .1))))
           (control-more _ _ (l .inv .0) (is ∙ w .0 .taken) (w .1 .ensures .0 ∙ evening-there _ _ _ _ start (l .inv .1)) (w .1 .ensures .1)))
-      (λ w. rw (w .1, w .2) (other-more _ _ (l .inv .0) (is ∙ w .0 .left)))
-      (c .if2 .came),
+          (λ w. rw (w .1, w .2) (other-more _ _ (l .inv .0) (is ∙ w .0 .left)))
+          (c .if2 .came),
       omega arith,
       omega arith,
     )

@@ -61,14 +61,14 @@ ks-of-requires c κs =
     let control = c .control-hours .ensures in (
       (a .pre .0 .0, at .0, at .1),
       (
-    (v .0, v .1),
-    (
-      (
-        sums .0 ∙ k4-inside (a .args .h) (a .args .s .now) (a .args .p) _ (a .pre .0 .1) ∙ ap (k4Of (a .args .h) (m .producer (a .args .p))) (summed u),
-        sums .1 .1,
-      ),
-      (control .0 ∙ control-inside (a .args .h) (a .args .s .now) (a .args .p) (a .pre .0 .1), control .1),
-    ),
+        (v .0, v .1),
+        (
+          (
+            sums .0 ∙ k4-inside (a .args .h) (a .args .s .now) (a .args .p) _ (a .pre .0 .1) ∙ ap (k4Of (a .args .h) (m .producer (a .args .p))) (summed u),
+            sums .1 .1,
+          ),
+          (control .0 ∙ control-inside (a .args .h) (a .args .s .now) (a .args .p) (a .pre .0 .1), control .1),
+        ),
       ),
     )
 
