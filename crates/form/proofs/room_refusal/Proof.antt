@@ -11,7 +11,7 @@ first-requires c κs = search needs
 
 returns : tie.Need-returns
 unfolding roomTests firstOf
-returns c = cc
+returns c = rw (c .first .ensures, c .before .result-length .ensures)
 
 pub room-refusal-spec : {M : Type 1} → statement M
 room-refusal-spec = tie.close (tie.spec result-length-requires first-requires returns)

@@ -50,9 +50,12 @@ summed c =
     let d = c .before .word .ensures ∙ ap (λ (x : ℕ). bigEndian 4 (a .args .s .now) (x + 4)) (c .before .before .producer-at .ensures .0) in
     c .summed-of .ensures ∙ summed-is (monthUnder (a .args .h) (a .args .s .now)) (a .args .p) (a .args .v) _ (a .pre .1 .0) d
 
+abbrev summing : tie.After-control-hours → tie.After-summed-of
+summing c = c .before .before .before .before .before
+
 ks-of-requires : tie.Need-ks-of-requires
 ks-of-requires c κs =
-    let u = c .before .before .before .before .before in
+    let u = summing c in
     let a = u .before .before .before .before in
     let m = monthUnder (a .args .h) (a .args .s .now) in
     let at = u .before .before .producer-at .ensures in
