@@ -1,10 +1,10 @@
 -- The stretch of a sheet with a producer's hours, as it is handed back. Assumes nothing.
-use mathlib.Core.Path.{_≡_, refl}
+use mathlib.Core.Path.{_≡_, refl, sym, ap}
 use mathlib.Core.List.{List, []}
 use Prim.Native.Nat.{ℕ, _+_, _-_, _*_, _≤_, _<_}
 use native.Mathlib.Nat.{add-sub-cancel-left}
 use native.Mathlib.Omega.{arith}
-use lib.ListN.{length, take, drop}
+use lib.ListN.{length, take, drop, length-take, length-drop}
 use Rattle.rules.specs.declared.Header.{Header}
 use Rattle.rules.specs.Sheet.{headerOf, hourAt}
 use Rattle.rules.specs.Refusals.{formTests, firstOf}
@@ -13,9 +13,9 @@ use Rattle.laws.proofs.Refusals.{stretch-there, stretch-ends}
 
 -- No stretch: nothing, from the sheet's start.
 pub no-stretch : (s : List ℕ) (p q : ℕ) → hoursStretch s p ≡ record { place = 0; bytes = 0 }
-    → ([] ≡ within (hoursStretch s p) s) × (q ≡ hoursStretch s p .place + q)
+    → ([] ≡ within (hoursStretch s p) s) × (q ≡ hoursStretch s p .place + q) × (0 ≡ hoursStretch s p .bytes)
 unfolding within
-no-stretch s p q e = rw e (refl, omega arith)
+no-stretch s p q e = rw e (refl, omega arith, refl)
 
 -- The stretch of a producer below P, found through the header.
 module _ (s : List ℕ) (p at : ℕ) (h : Header) (eh : h ≡ headerOf s) (e : at ≡ hourAt h p 0) (f : firstOf (formTests s) ≡ 0) (l : p < h .producers) where
@@ -31,3 +31,8 @@ module _ (s : List ℕ) (p at : ℕ) (h : Header) (eh : h ≡ headerOf s) (e : a
 
   pub stretch-place : (q : ℕ) → at + q ≡ hoursStretch s p .place + q
   stretch-place q = rw (stretch-there s p f below, e, eh)
+
+  pub stretch-length : length (take (at + 288 * h .days - at) (drop at s)) ≡ hoursStretch s p .bytes
+  stretch-length =
+      let fits = stretch-fits in
+      simp (length-take, length-drop) (rw (stretch-there s p f below, ap (λ (x : Header). x .days) (sym eh)) (omega arith))

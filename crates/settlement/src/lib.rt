@@ -50,6 +50,7 @@ pub fn hours_of(sheet: &[u8], p: u8) -> &[u8]
     ensures { λ r. ⌜ now r ≡ within (hoursStretch (now (sheet .entry)) p) (now (sheet .entry)) ⌝ }
     ensures place { λ r. ⌜ (r .ptr .0 ≡ sheet .entry .ptr .0)
         × (r .ptr .1 ≡ hoursStretch (now (sheet .entry)) p .place + sheet .entry .ptr .1) ⌝ }
+    ensures bytes { λ r. ⌜ length (now r) ≡ hoursStretch (now (sheet .entry)) p .bytes ⌝ }
 {
     producer_hours(sheet, p)
 }

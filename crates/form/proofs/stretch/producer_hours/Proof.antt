@@ -1,7 +1,7 @@
 use mathlib.Core.Path.{refl, sym, _∙_}
 use native.Mathlib.Omega.{arith}
 use Rattle.laws.proofs.Refusals.{stretch-refused, stretch-none}
-use Rattle.form.proofs.Handed.{no-stretch, stretch-fits, stretch-list, stretch-place}
+use Rattle.form.proofs.Handed.{no-stretch, stretch-fits, stretch-list, stretch-place, stretch-length}
 use borrow.Author.Needs.{needs}
 use Rattle.form.proofs.stretch.producer_hours.Statement.{statement}
 use Rattle.form.proofs.stretch.producer_hours.Tie as tie
@@ -16,7 +16,7 @@ returns : tie.Need-returns
 returns c =
     let p =
     no-stretch _ _ _ (stretch-refused (c .before .before .before .before .args .s .now) (c .before .before .before .before .args .p) (λ z. c .before .if1 .taken (c .before .before .form-refusal .ensures ∙ z))) in
-    (p .0, (refl, p .1))
+    (p .0, ((refl, p .1), p .2))
 
 header-requires : tie.Need-header-requires
 header-requires c κs = search needs
@@ -30,7 +30,7 @@ returns-2 c =
     no-stretch _ _ _
     (stretch-none (c .before .before .before .before .before .before .before .args .s .now) (c .before .before .before .before .before .before .before .args .p) (sym (c .before .before .before .before .before .form-refusal .ensures) ∙ c .before .before .before .before .if1 .left)
     (rw (c .before .before .before .header .ensures) at (c .before .if2 .taken))) in
-    (p .0, (refl, p .1))
+    (p .0, ((refl, p .1), p .2))
 
 hours-at-requires : tie.Need-hours-at-requires
 hours-at-requires c κs = search needs
@@ -60,13 +60,15 @@ part-result-end c =
 
 returns-3 : tie.Need-returns-3
 returns-3 c =
-    let f = sym (c .before .before .before .before .before .before .before .form-refusal .ensures) ∙ c .before .before .before .before .before .before .if1 .left in (
-      stretch-list (c .before .before .before .before .before .before .before .before .before .args .s .now) (c .before .before .before .before .before .before .before .before .before .args .p) (c .before .before .hours-at .result) (c .before .before .before .before .before .header .result) (c .before .before .before .before .before .header .ensures)
-          (c .before .before .hours-at .ensures .0) f (c .before .before .before .if2 .left),
+    let a = c .before .before .before .before .before .before .before .before .before .args in
+    let h = c .before .before .before .before .before .header in
+    let at = c .before .before .hours-at in
+    let f = sym (c .before .before .before .before .before .before .before .form-refusal .ensures) ∙ c .before .before .before .before .before .before .if1 .left in
+    let l = c .before .before .before .if2 .left in (
+      stretch-list (a .s .now) (a .p) (at .result) (h .result) (h .ensures) (at .ensures .0) f l,
       (
-        refl,
-        stretch-place (c .before .before .before .before .before .before .before .before .before .args .s .now) (c .before .before .before .before .before .before .before .before .before .args .p) (c .before .before .hours-at .result) (c .before .before .before .before .before .header .result) (c .before .before .before .before .before .header .ensures)
-            (c .before .before .hours-at .ensures .0) f (c .before .before .before .if2 .left) _,
+        (refl, stretch-place (a .s .now) (a .p) (at .result) (h .result) (h .ensures) (at .ensures .0) f l _),
+        stretch-length (a .s .now) (a .p) (at .result) (h .result) (h .ensures) (at .ensures .0) f l,
       ),
     )
 
