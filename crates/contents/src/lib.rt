@@ -1,12 +1,13 @@
 // Numbers 8 to 12: the figures of producers, rows and consumers. Each record is read once.
 ghost use mathlib.Core.Path.{_≡_};
 ghost use Rattle.rules.specs.Sheet.{monthUnder};
-ghost use Rattle.rules.specs.Refusals.{badShare, highProducer, figureTests, firstOf};
+ghost use Rattle.rules.specs.Refusals.{badShare, highProducer, figureTests, sheetTests, firstOf};
 ghost use Rattle.contents.specs.Contents.{producerTests, rowTests, consumerTests};
 use ceiling::high_hours;
 use fields::half;
 use fields::word;
 use form::first;
+use form::form_refusal;
 use limits::above_one;
 use limits::bad_factor;
 use limits::bad_reference;
@@ -16,6 +17,7 @@ use limits::too_high;
 use places::producer_at;
 use rules::Header;
 use sheet::consumer;
+use sheet::header;
 use sheet::row;
 
 // What is wrong with some producer: number 8, number 9.
@@ -124,4 +126,15 @@ pub fn figure_refusal(s: &[u8], h: Header) -> u8
     let ten = first(10, r.reference, eleven);
     let nine = first(9, p.high | (r.high | c.high), ten);
     first(8, p.share, nine)
+}
+
+// The first number that applies to a sheet, all but 7, for entries that have no result buffer; 0 where none does.
+pub fn sheet_refusal(s: &[u8]) -> u8
+    ensures { λ r. ⌜ r ≡ firstOf (sheetTests (now (s .entry))) ⌝ }
+{
+    let form = form_refusal(s);
+    if form != 0 {
+        return form;
+    }
+    figure_refusal(s, header(s))
 }

@@ -1,8 +1,7 @@
 // Numbers 1 to 7: the sheet's form and the result buffer's room; and a producer's hours, which are handed back where 1 to 6 pass.
 ghost use mathlib.Core.Path.{_≡_};
 ghost use mathlib.Core.Bool.{cond};
-ghost use Rattle.rules.specs.Refusals.{badMonth, tooMany, formTests, roomTests, firstOf};
-ghost use Rattle.form.specs.Form.{headerTests};
+ghost use Rattle.rules.specs.Refusals.{badMonth, tooMany, frontTests, headerTests, formTests, roomTests, firstOf};
 use calendar::holiday_past;
 use fields::byte;
 use fields::word;
@@ -45,15 +44,24 @@ pub fn header_refusal(h: Header, bytes: usize) -> u8
     first(4, bad_month(h), five)
 }
 
+// The first of the numbers 1 to 3 that applies to a sheet, 0 where none does.
+pub fn front_refusal(s: &[u8]) -> u8
+    ensures { λ r. ⌜ r ≡ firstOf (frontTests (now (s .entry))) ⌝ }
+{
+    let three = first(3, byte(s, 4) != 1, 0);
+    let two = first(2, word(s, 0) as usize != s.len(), three);
+    first(1, s.len() < 14, two)
+}
+
 // The first of the numbers 1 to 6 that applies, 0 where none does.
 pub fn form_refusal(s: &[u8]) -> u8
     ensures { λ r. ⌜ r ≡ firstOf (formTests (now (s .entry))) ⌝ }
 {
-    let told = word(s, 0) as usize;
-    let four = header_refusal(header(s), told);
-    let three = first(3, byte(s, 4) != 1, four);
-    let two = first(2, told != s.len(), three);
-    first(1, s.len() < 14, two)
+    let front = front_refusal(s);
+    if front != 0 {
+        return front;
+    }
+    header_refusal(header(s), word(s, 0) as usize)
 }
 
 // 7 where the result does not fit into a buffer of so many bytes, otherwise 0.

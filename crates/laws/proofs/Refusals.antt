@@ -18,7 +18,7 @@ use Rattle.rules.specs.declared.Consumer.{Consumer}
 use Rattle.rules.specs.Month.{Producer, Month, hours}
 use Rattle.rules.specs.Sheet.{headerOf, monthOf, hoursWidth, hourAt}
 use Rattle.rules.specs.Result.{resultLength}
-use Rattle.rules.specs.Refusals.{oneOf, badMonth, tooMany, badShare, tooHigh, highHour, highProducer, highRow, highConsumer, badReference, tooDear, badFactor, Test, formTests, roomTests, figureTests, tests, applies, firstOf, refusal}
+use Rattle.rules.specs.Refusals.{oneOf, badMonth, tooMany, badShare, tooHigh, highHour, highProducer, highRow, highConsumer, badReference, tooDear, badFactor, Test, frontTests, headerTests, formTests, roomTests, figureTests, tests, applies, firstOf, refusal}
 use Rattle.rules.specs.Limits.{HeaderLimits, ProducerLimits, RowLimits, ConsumerLimits, MonthLimits, FormLimits, SheetLimits}
 use Rattle.rules.specs.Outcome.{Accepted, hoursStretch}
 use Rattle.laws.proofs.Sheet.{hours-inside}
@@ -57,6 +57,13 @@ first-append (x ∷ xs) ys t = go (x .applies) (first-append xs ys (and-r (leb 1
         ≡ cond (eqb (cond b (x .number) (firstOf xs)) 0) (firstOf ys) (cond b (x .number) (firstOf xs))
     go true e = rw (ne-eqb (x .number) 0 positive)
     go false e = e
+
+-- So where the first list has a number it stands, and where it has none the second list's does.
+pub first-stands : (xs ys : List Test) → T (numbered xs) → (firstOf xs ≡ 0 → ⊥) → firstOf xs ≡ firstOf (xs ++ ys)
+first-stands xs ys t n = sym (first-append xs ys t ∙ rw (ne-eqb (firstOf xs) 0 n))
+
+pub first-next : (xs ys : List Test) → T (numbered xs) → firstOf xs ≡ 0 → firstOf ys ≡ firstOf (xs ++ ys)
+first-next xs ys t e = sym (first-append xs ys t ∙ rw e)
 
 pub first-both : (xs ys : List Test) → T (numbered xs) → firstOf (xs ++ ys) ≡ 0 → (firstOf xs ≡ 0) × (firstOf ys ≡ 0)
 first-both xs ys t e = go (eqb (firstOf xs) 0) refl (sym (first-append xs ys t) ∙ e)
@@ -262,10 +269,27 @@ module _ (h : Header) where
         (le-ltb _ _ (l .grid), (le-ltb _ _ (l .z-from), (le-ltb _ _ (l .z-to), tt))),
       )
 
+-- No test of 1 to 3, of 4 to 6, 7, or of 1 to 6, has the number 0.
+pub front-numbered : (s : List ℕ) → T (numbered (frontTests s))
+unfolding frontTests
+front-numbered s = tt
+
+pub header-numbered : (h : Header) (bytes : ℕ) → T (numbered (headerTests h bytes))
+unfolding headerTests
+header-numbered h bytes = tt
+
+pub room-numbered : (h : Header) (room : ℕ) → T (numbered (roomTests h room))
+unfolding roomTests
+room-numbered h room = tt
+
+pub form-numbered : (s : List ℕ) → T (numbered (formTests s))
+unfolding frontTests headerTests formTests
+form-numbered s = tt
+
 -- Numbers 1 to 6, from their tests and back.
 module _ (s : List ℕ) where
   pub form-limits : firstOf (formTests s) ≡ 0 → FormLimits s
-  unfolding formTests applies
+  unfolding frontTests headerTests formTests applies
   form-limits e =
       let c : (n : ℕ) → applies n (formTests s) ≡ false = none-applies (formTests s) tt e in
       record {
@@ -277,7 +301,7 @@ module _ (s : List ℕ) where
       }
 
   form-clear : FormLimits s → firstOf (formTests s) ≡ 0
-  unfolding formTests
+  unfolding frontTests headerTests formTests
   form-clear l =
       all-clear _ (
         le-ltb _ _ (l .whole-header),
@@ -331,12 +355,8 @@ module _ (s : List ℕ) (room : ℕ) where
   before-figures : List Test
   before-figures = formTests s ++ roomTests (headerOf s) room
 
-  form-numbered : T (numbered (formTests s))
-  unfolding formTests
-  form-numbered = tt
-
   before-numbered : T (numbered before-figures)
-  unfolding before-figures formTests roomTests
+  unfolding before-figures frontTests headerTests formTests roomTests
   before-numbered = tt
 
   room-limit : firstOf (roomTests (headerOf s) room) ≡ 0 → resultLength (headerOf s) ≤ room
@@ -353,7 +373,7 @@ module _ (s : List ℕ) (room : ℕ) where
   unfolding refusal tests before-figures
   limits a =
       let x = first-both before-figures (figureTests (monthOf s)) before-numbered a in
-      let y = first-both (formTests s) (roomTests (headerOf s) room) form-numbered (x .0) in
+      let y = first-both (formTests s) (roomTests (headerOf s) room) (form-numbered s) (x .0) in
       record {
         form = form-limits s (y .0);
         enough-room = room-limit (y .1);
@@ -364,7 +384,7 @@ module _ (s : List ℕ) (room : ℕ) where
   unfolding refusal tests before-figures
   accepted l =
       both-first before-figures (figureTests (monthOf s)) before-numbered
-      (both-first (formTests s) (roomTests (headerOf s) room) form-numbered (form-clear s (l .form)) (room-clear (l .enough-room)))
+      (both-first (formTests s) (roomTests (headerOf s) room) (form-numbered s) (form-clear s (l .form)) (room-clear (l .enough-room)))
       (month-figures-clear (monthOf s) (l .month))
 
 -- The stretch of hours: where it stands, that it ends within the sheet, and where there is none.

@@ -1,68 +1,53 @@
 -- Which list of tests the first number comes from, and what is left in the buffer. Assumes nothing.
-use mathlib.Core.Path.{_≡_, refl, sym, _∙_}
-use mathlib.Core.Bool.{Bool, false, cond}
+use mathlib.Core.Path.{_≡_, sym, _∙_}
 use mathlib.Core.List.{List, _++_}
 use Prim.Native.Nat.{ℕ, _≤_}
 use native.Mathlib.Nat.{le-of-eq}
 use borrow.Author.Tests.{eqb-true, ltb-false, eq-eqb, ne-eqb}
 use lib.ListN.{length}
-use lib.Dec.{T, eqb}
 use Rattle.rules.specs.declared.Header.{Header}
 use Rattle.rules.specs.Fields.{over}
 use Rattle.rules.specs.Sheet.{sheetLength, monthUnder}
-use Rattle.rules.specs.Limits.{HeaderLimits, MonthLimits}
+use Rattle.rules.specs.Limits.{HeaderLimits}
 use Rattle.rules.specs.Result.{resultLength, resultOf}
-use Rattle.rules.specs.Refusals.{roomTests, figureTests, firstOf, applies}
-use Rattle.laws.proofs.Refusals.{numbered, none-applies, first-append, first-both, not-true, header-limits, month-limits}
-use Rattle.form.specs.Form.{headerTests}
-use Rattle.month.specs.Numbers.{earlyNumber, monthNumber, monthAfter}
+use Rattle.rules.specs.Refusals.{headerTests, roomTests, figureTests, firstOf, applies}
+use Rattle.laws.proofs.Refusals.{none-applies, first-stands, first-next, not-true, header-numbered, room-numbered, header-limits}
+use Rattle.month.specs.Numbers.{monthNumber, monthAfter}
 
-module _ (h : Header) (bytes room : ℕ) where
-  header-numbered : T (numbered (headerTests h bytes))
-  unfolding headerTests
-  header-numbered = tt
-
-  early-numbered : T (numbered (headerTests h bytes ++ roomTests h room))
-  unfolding headerTests roomTests
-  early-numbered = tt
-
-  -- The first of 4 to 7.
-  pub header-first : (firstOf (headerTests h bytes) ≡ 0 → ⊥) → earlyNumber h bytes room ≡ firstOf (headerTests h bytes)
-  unfolding earlyNumber
-  header-first n = first-append (headerTests h bytes) (roomTests h room) header-numbered ∙ rw (ne-eqb (firstOf (headerTests h bytes)) 0 n)
-
-  pub room-next : firstOf (headerTests h bytes) ≡ 0 → earlyNumber h bytes room ≡ firstOf (roomTests h room)
-  unfolding earlyNumber
-  room-next f = first-append (headerTests h bytes) (roomTests h room) header-numbered ∙ rw (eq-eqb (firstOf (headerTests h bytes)) 0 f)
-
-  module _ (none : earlyNumber h bytes room ≡ 0) where
-    both : (firstOf (headerTests h bytes) ≡ 0) × (firstOf (roomTests h room) ≡ 0)
-    both = unfold earlyNumber in first-both (headerTests h bytes) (roomTests h room) header-numbered none
-
-    clear : (n : ℕ) → applies n (headerTests h bytes) ≡ false
-    clear = none-applies (headerTests h bytes) header-numbered (both .0)
-
+module _ (h : Header) (bytes : ℕ) where
+  -- Where none of 4 to 6 applies.
+  module _ (none : firstOf (headerTests h bytes) ≡ 0) where
     pub within : HeaderLimits h
-    within = unfold headerTests applies in header-limits h (clear 4) (clear 5)
+    within =
+        unfold headerTests applies in
+        header-limits h (none-applies (headerTests h bytes) (header-numbered h bytes) none 4) (none-applies (headerTests h bytes) (header-numbered h bytes) none 5)
 
     pub whole : sheetLength h ≤ bytes
-    whole = unfold headerTests applies in le-of-eq (sym (eqb-true _ _ (not-true _ (clear 6))))
+    whole = unfold headerTests applies in le-of-eq (sym (eqb-true _ _ (not-true _ (none-applies (headerTests h bytes) (header-numbered h bytes) none 6))))
 
-    pub enough-room : resultLength h ≤ room
-    enough-room = unfold roomTests applies in ltb-false _ _ (none-applies (roomTests h room) tt (both .1) 7)
+-- Where 7 does not.
+pub enough-room : (h : Header) (room : ℕ) → firstOf (roomTests h room) ≡ 0 → resultLength h ≤ room
+unfolding roomTests applies
+enough-room h room none = ltb-false _ _ (none-applies (roomTests h room) (room-numbered h room) none 7)
 
 module _ (h : Header) (s : List ℕ) (room : ℕ) where
-  -- It is the month's number; where there is none, the first of 8 to 12 is.
-  split : monthNumber h s room
-      ≡ cond (eqb (earlyNumber h (length s) room) 0) (firstOf (figureTests (monthUnder h s))) (earlyNumber h (length s) room)
-  unfolding monthNumber earlyNumber
-  split = first-append (headerTests h (length s) ++ roomTests h room) (figureTests (monthUnder h s)) (early-numbered h (length s) room)
+  -- The first of 4 to 6 is the month's number; where there is none, 7; where that does not apply, the first of 8 to 12.
+  pub form-stands : (firstOf (headerTests h (length s)) ≡ 0 → ⊥) → firstOf (headerTests h (length s)) ≡ monthNumber h s room
+  unfolding monthNumber
+  form-stands n = first-stands (headerTests h (length s)) _ (header-numbered h (length s)) n
 
-  pub early-stands : (earlyNumber h (length s) room ≡ 0 → ⊥) → earlyNumber h (length s) room ≡ monthNumber h s room
-  early-stands n = sym (split ∙ rw (ne-eqb (earlyNumber h (length s) room) 0 n))
+  module _ (form : firstOf (headerTests h (length s)) ≡ 0) where
+    pub room-stands : (firstOf (roomTests h room) ≡ 0 → ⊥) → firstOf (roomTests h room) ≡ monthNumber h s room
+    unfolding monthNumber
+    room-stands n =
+        first-stands (roomTests h room) (figureTests (monthUnder h s)) (room-numbered h room) n
+        ∙ first-next (headerTests h (length s)) _ (header-numbered h (length s)) form
 
-  pub figures-next : earlyNumber h (length s) room ≡ 0 → firstOf (figureTests (monthUnder h s)) ≡ monthNumber h s room
-  figures-next n = sym (split ∙ rw (eq-eqb (earlyNumber h (length s) room) 0 n))
+    pub figures-next : firstOf (roomTests h room) ≡ 0 → firstOf (figureTests (monthUnder h s)) ≡ monthNumber h s room
+    unfolding monthNumber
+    figures-next n =
+        first-next (roomTests h room) (figureTests (monthUnder h s)) (room-numbered h room) n
+        ∙ first-next (headerTests h (length s)) _ (header-numbered h (length s)) form
 
 -- A month with a number: the buffer as it was. One without: the result over its front.
 pub kept : (h : Header) (s out : List ℕ) {n : ℕ} → n ≡ monthNumber h s (length out) → (n ≡ 0 → ⊥)

@@ -8,16 +8,11 @@ use Rattle.rules.specs.declared.Header.{Header}
 use Rattle.rules.specs.Fields.{over}
 use Rattle.rules.specs.Sheet.{monthUnder}
 use Rattle.rules.specs.Result.{resultOf}
-use Rattle.rules.specs.Refusals.{roomTests, figureTests, firstOf}
-use Rattle.form.specs.Form.{headerTests}
-
--- The first of 4 to 7, 0 where none applies.
-unfoldable pub earlyNumber : Header → ℕ → ℕ → ℕ
-earlyNumber h bytes room = firstOf (headerTests h bytes ++ roomTests h room)
+use Rattle.rules.specs.Refusals.{headerTests, roomTests, figureTests, firstOf}
 
 -- The first of 4 to 12, 0 where none applies.
 unfoldable pub monthNumber : Header → List ℕ → ℕ → ℕ
-monthNumber h s room = firstOf ((headerTests h (length s) ++ roomTests h room) ++ figureTests (monthUnder h s))
+monthNumber h s room = firstOf (headerTests h (length s) ++ (roomTests h room ++ figureTests (monthUnder h s)))
 
 -- The result over the buffer's front where none applies, otherwise the buffer as it was.
 unfoldable pub monthAfter : Header → List ℕ → List ℕ → List ℕ

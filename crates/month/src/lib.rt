@@ -1,7 +1,7 @@
 // The figures of one month: numbers 4 to 12 under a header, and the result of a month to which none applies.
 ghost use mathlib.Core.Path.{_≡_};
 ghost use lib.ListN.{length};
-ghost use Rattle.month.specs.Numbers.{earlyNumber, monthNumber, monthAfter};
+ghost use Rattle.month.specs.Numbers.{monthNumber, monthAfter};
 use contents::figure_refusal;
 use form::header_refusal;
 use form::room_refusal;
@@ -11,26 +11,19 @@ mod consumers;
 mod result;
 mod rows;
 
-// The first of the numbers 4 to 7 that applies, with a sheet and a result buffer of so many bytes; 0 where none does.
-fn early_refusal(h: Header, bytes: usize, room: usize) -> u8
-    ensures { λ r. ⌜ r ≡ earlyNumber h bytes room ⌝ }
-{
-    let six = header_refusal(h, bytes);
-    if six != 0 {
-        return six;
-    }
-    room_refusal(h, room)
-}
-
 // The first of the numbers 4 to 12 that applies to the month that a header puts into a sheet. Where none does the answer is 0 and the
 // result stands at the buffer's front.
 pub fn settle_month(s: &[u8], h: Header, out: &mut [u8]) -> u8
     ensures { λ r. ⌜ r ≡ monthNumber h (now (s .entry)) (length (now (out .entry))) ⌝ }
     ensures buffer { λ r. ⌜ now (out .exit) ≡ monthAfter h (now (s .entry)) (now (out .entry)) ⌝ }
 {
-    let early = early_refusal(h, s.len(), out.len());
-    if early != 0 {
-        return early;
+    let form = header_refusal(h, s.len());
+    if form != 0 {
+        return form;
+    }
+    let room = room_refusal(h, out.len());
+    if room != 0 {
+        return room;
     }
     let number = figure_refusal(s, h);
     if number != 0 {

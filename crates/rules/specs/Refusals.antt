@@ -115,17 +115,21 @@ pub record Test : Type 0 where
 abbrev pub test : ℕ → Bool → Test
 test number applies = record { number = number; applies = applies }
 
--- 1 to 6, the form: no whole header; a length field that is wrong about the bytes; another version; the month; the counts; a length
--- other than month and counts ask for.
-unfoldable pub formTests : List ℕ → List Test
-formTests s =
+-- 1 to 3: no whole header; a length field that is wrong about the bytes; another version.
+unfoldable pub frontTests : List ℕ → List Test
+frontTests s =
     test 1 (ltb (length s) headerWidth)
     ∷ test 2 (not (eqb (lengthField s) (length s)))
     ∷ test 3 (not (eqb (version s) 1))
-    ∷ test 4 (badMonth (headerOf s))
-    ∷ test 5 (tooMany (headerOf s))
-    ∷ test 6 (not (eqb (lengthField s) (sheetLength (headerOf s))))
     ∷ []
+
+-- 4 to 6, of a header and the length of its sheet: the month; the counts; a length other than month and counts ask for.
+unfoldable pub headerTests : Header → ℕ → List Test
+headerTests h bytes = test 4 (badMonth h) ∷ test 5 (tooMany h) ∷ test 6 (not (eqb bytes (sheetLength h))) ∷ []
+
+-- 1 to 6: the form.
+unfoldable pub formTests : List ℕ → List Test
+formTests s = frontTests s ++ headerTests (headerOf s) (lengthField s)
 
 -- 7, the room: the result does not fit into the result buffer.
 unfoldable pub roomTests : Header → ℕ → List Test
@@ -140,6 +144,10 @@ figureTests m =
     ∷ test 11 (oneOf (someRow m (λ r. tooDear (r .price)) ∷ someConsumer m (λ c. tooDear (c .price)) ∷ []))
     ∷ test 12 (someConsumer m (badFactor (m .header)))
     ∷ []
+
+-- All but 7, in their order: what an entry tries that has no result buffer.
+unfoldable pub sheetTests : List ℕ → List Test
+sheetTests s = formTests s ++ figureTests (monthOf s)
 
 -- All of them in their order, for a result buffer of so many bytes.
 unfoldable pub tests : List ℕ → ℕ → List Test

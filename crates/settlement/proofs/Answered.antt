@@ -1,41 +1,33 @@
 -- Which list of tests the first number comes from, and what an entry answers and leaves. Assumes nothing.
-use mathlib.Core.Path.{_≡_, refl, sym, ap, _∙_}
-use mathlib.Core.Bool.{Bool, false, cond, not}
-use mathlib.Core.List.{List, [], _∷_, _++_}
+use mathlib.Core.Path.{_≡_, sym, ap, _∙_}
+use mathlib.Core.List.{List, _++_, append-assoc}
 use Prim.Native.Nat.{ℕ}
 use borrow.Author.Tests.{eqb-true, eq-eqb, ne-eqb}
 use lib.ListN.{length}
-use lib.Dec.{T, eqb}
 use Rattle.rules.specs.declared.Header.{Header}
-use Rattle.rules.specs.Sheet.{lengthField, headerOf, sheetLength, monthOf}
+use Rattle.rules.specs.Sheet.{lengthField, headerOf, monthOf}
 use Rattle.rules.specs.Result.{resultLength}
-use Rattle.rules.specs.Refusals.{formTests, roomTests, figureTests, tests, applies, firstOf, refusal}
+use Rattle.rules.specs.Refusals.{frontTests, headerTests, formTests, roomTests, figureTests, tests, applies, firstOf, refusal}
 use Rattle.rules.specs.Outcome.{refused, written, outcome, bufferAfter}
-use Rattle.laws.proofs.Refusals.{numbered, none-applies, first-append, not-true}
-use Rattle.form.specs.Form.{headerTests}
+use Rattle.laws.proofs.Refusals.{none-applies, first-stands, first-next, not-true, front-numbered}
 use Rattle.month.specs.Numbers.{monthNumber, monthAfter}
-use Rattle.settlement.specs.Front.{frontTests, frontNumber}
 
 module _ (s : List ℕ) (room : ℕ) where
-  front-numbered : T (numbered (frontTests s))
-  unfolding frontTests
-  front-numbered = tt
+  -- The tests past the first three, with the length that the sheet states.
+  later : refusal s room ≡ firstOf (frontTests s ++ (headerTests (headerOf s) (lengthField s) ++ (roomTests (headerOf s) room ++ figureTests (monthOf s))))
+  unfolding refusal tests formTests
+  later = simp append-assoc
 
-  -- The first of 1 to 3 is the sheet's number; where there is none, the first of 4 to 12 is, with the length that the sheet states.
-  split : refusal s room
-      ≡ cond (eqb (frontNumber s) 0) (firstOf ((headerTests (headerOf s) (lengthField s) ++ roomTests (headerOf s) room) ++ figureTests (monthOf s))) (frontNumber s)
-  unfolding refusal tests formTests frontTests headerTests roomTests
-  split = first-append (frontTests s) ((headerTests (headerOf s) (lengthField s) ++ roomTests (headerOf s) room) ++ figureTests (monthOf s)) front-numbered
+  -- The first of 1 to 3 is the sheet's number; where there is none, the first of 4 to 12 is.
+  pub front-stands : (firstOf (frontTests s) ≡ 0 → ⊥) → firstOf (frontTests s) ≡ refusal s room
+  front-stands n = first-stands (frontTests s) _ (front-numbered s) n ∙ sym later
 
-  pub front-stands : (frontNumber s ≡ 0 → ⊥) → frontNumber s ≡ refusal s room
-  front-stands n = sym (split ∙ rw (ne-eqb (frontNumber s) 0 n))
+  told : firstOf (frontTests s) ≡ 0 → lengthField s ≡ length s
+  told n = unfold frontTests applies in eqb-true _ _ (not-true _ (none-applies (frontTests s) (front-numbered s) n 2))
 
-  told : frontNumber s ≡ 0 → lengthField s ≡ length s
-  told n = unfold frontTests applies in eqb-true _ _ (not-true _ (none-applies (frontTests s) front-numbered n 2))
-
-  pub month-next : frontNumber s ≡ 0 → monthNumber (headerOf s) s room ≡ refusal s room
+  pub month-next : firstOf (frontTests s) ≡ 0 → monthNumber (headerOf s) s room ≡ refusal s room
   unfolding monthNumber
-  month-next n = sym (split ∙ rw (eq-eqb (frontNumber s) 0 n, told n))
+  month-next n = rw (sym (told n)) (first-next (frontTests s) _ (front-numbered s) n ∙ sym later)
 
 -- A refused sheet: its number, and the buffer as it was.
 pub turned-down : (s out : List ℕ) (n : ℕ) → n ≡ refusal s (length out) → (n ≡ 0 → ⊥) → (refused n ≡ outcome s (length out)) × (out ≡ bufferAfter s out)
@@ -45,7 +37,7 @@ turned-down s out n e p =
     (rw (q, e), rw q)
 
 -- What the month leaves is what the sheet leaves.
-module _ (s out : List ℕ) (h : Header) (eh : h ≡ headerOf s) (front : frontNumber s ≡ 0) where
+module _ (s out : List ℕ) (h : Header) (eh : h ≡ headerOf s) (front : firstOf (frontTests s) ≡ 0) where
   number : {n : ℕ} → n ≡ monthNumber h s (length out) → n ≡ refusal s (length out)
   number e = e ∙ ap (λ (x : Header). monthNumber x s (length out)) eh ∙ month-next s (length out) front
 

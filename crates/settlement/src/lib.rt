@@ -3,11 +3,8 @@ ghost use mathlib.Core.Path.{_≡_};
 ghost use lib.ListN.{length};
 ghost use Prim.Native.Nat.{_+_};
 ghost use Rattle.rules.specs.Outcome.{outcome, bufferAfter, hoursStretch, within};
-ghost use Rattle.settlement.specs.Front.{frontNumber};
 ghost use Rattle.settlement.specs.Said.{said, inC};
-use fields::byte;
-use fields::word;
-use form::first;
+use form::front_refusal;
 use form::producer_hours;
 use month::settle_month;
 use places::result_length;
@@ -17,15 +14,6 @@ use sheet::header;
 pub enum Answer {
     Refused(u8),
     Written(usize),
-}
-
-// The first of the numbers 1 to 3 that applies to a sheet, 0 where none does.
-fn front_refusal(s: &[u8]) -> u8
-    ensures { λ r. ⌜ r ≡ frontNumber (now (s .entry)) ⌝ }
-{
-    let three = first(3, byte(s, 4) != 1, 0);
-    let two = first(2, word(s, 0) as usize != s.len(), three);
-    first(1, s.len() < 14, two)
 }
 
 // Settles a sheet into a result buffer. A refusal changes no byte of the buffer; bytes past a result keep what they had.

@@ -1,57 +1,48 @@
-use Rattle.rules.specs.Refusals.{firstOf, formTests}
-use Rattle.rules.specs.Sheet.{lengthField, version}
-use Rattle.form.specs.Form.{headerTests}
+use mathlib.Core.Path.{sym, ap, _∙_}
+use Prim.Native.Nat.{ℕ}
+use Rattle.rules.specs.declared.Header.{Header}
+use Rattle.rules.specs.Sheet.{lengthField}
+use Rattle.rules.specs.Refusals.{frontTests, headerTests, formTests, firstOf}
+use Rattle.laws.proofs.Refusals.{first-stands, first-next, front-numbered}
 use borrow.Author.Needs.{needs}
 use Rattle.form.proofs.form_refusal.Statement.{statement}
 use Rattle.form.proofs.form_refusal.Tie as tie
 
-word-requires : tie.Need-word-requires
-word-requires c κs = search needs
+front-refusal-requires : tie.Need-front-refusal-requires
+front-refusal-requires c κs = search needs
 
-cast-told : tie.Need-cast-told
-cast-told c = search needs
+returns : tie.Need-returns
+unfolding formTests
+returns c =
+    let e = c .before .front-refusal .ensures in
+    e ∙ first-stands _ _ (front-numbered _) (λ z. c .if1 .taken (e ∙ z))
 
 header-requires : tie.Need-header-requires
 header-requires c κs = search needs
 
+word-requires : tie.Need-word-requires
+word-requires c κs = search needs
+
+cast-header-refusal : tie.Need-cast-header-refusal
+cast-header-refusal c = search needs
+
 header-refusal-requires : tie.Need-header-refusal-requires
 header-refusal-requires c κs = search needs
 
-byte-requires : tie.Need-byte-requires
-byte-requires c κs = search needs
-
-first-requires : tie.Need-first-requires
-first-requires c κs = search needs
-
-first-requires-2 : tie.Need-first-requires-2
-first-requires-2 c κs = search needs
-
-first-requires-3 : tie.Need-first-requires-3
-first-requires-3 c κs = search needs
-
-returns : tie.Need-returns
-unfolding firstOf formTests headerTests lengthField version
-returns c =
-    rw (
-      c .first3 .ensures,
-      c .before .first2 .ensures,
-      c .before .before .first .ensures,
-      c .before .before .before .byte .ensures,
-      c .before .before .before .before .header-refusal .ensures,
-      c .before .before .before .before .before .header .ensures,
-      c .before .before .before .before .before .before .word .ensures,
-    )
+returns-2 : tie.Need-returns-2
+unfolding formTests lengthField
+returns-2 c =
+    let front = sym (c .before .before .before .before .front-refusal .ensures) ∙ c .before .before .before .if1 .left in
+    rw (c .header-refusal .ensures, c .before .word .ensures, c .before .before .header .ensures) (first-next _ _ (front-numbered _) front)
 
 pub form-refusal-spec : {M : Type 1} → statement M
 form-refusal-spec =
     tie.close
     (tie.spec
-    word-requires
-    cast-told
+    front-refusal-requires
+    returns
     header-requires
+    word-requires
+    cast-header-refusal
     header-refusal-requires
-    byte-requires
-    first-requires
-    first-requires-2
-    first-requires-3
-    returns)
+    returns-2)

@@ -1,5 +1,4 @@
-use Rattle.rules.specs.Refusals.{firstOf}
-use Rattle.form.specs.Form.{headerTests}
+use Rattle.rules.specs.Refusals.{headerTests, firstOf}
 use borrow.Author.Needs.{needs}
 use Rattle.form.proofs.header_refusal.Statement.{statement}
 use Rattle.form.proofs.header_refusal.Tie as tie

@@ -1,56 +1,73 @@
-use mathlib.Core.Path.{sym, _∙_}
+use mathlib.Core.Path.{_≡_, sym, _∙_}
 use lib.ListN.{length}
 use Rattle.rules.specs.Sheet.{monthUnder}
+use Rattle.rules.specs.Refusals.{headerTests, roomTests, firstOf}
 use Rattle.laws.proofs.Refusals.{month-limits}
-use Rattle.month.proofs.Numbered.{early-stands, figures-next, within, whole, enough-room, kept, written}
+use Rattle.month.proofs.Numbered.{within, whole, enough-room, form-stands, room-stands, figures-next, kept, written}
 use borrow.Author.Needs.{needs}
 use Rattle.month.proofs.settle_month.Statement.{statement}
 use Rattle.month.proofs.settle_month.Tie as tie
 
-early-refusal-requires : tie.Need-early-refusal-requires
-early-refusal-requires c κs = search needs
+-- None of 4 to 6 applies; nor does 7.
+form-none : (c : tie.Else1) → firstOf (headerTests (c .before .before .before .before .args .h) (length (c .before .before .before .before .args .s .now))) ≡ 0
+form-none c = sym (c .before .header-refusal .ensures) ∙ c .if1 .left
+
+room-none : (c : tie.Else2) → firstOf (roomTests (c .before .before .before .before .before .before .args .h) (length (c .before .before .before .before .before .before .args .out .now))) ≡ 0
+room-none c = sym (c .before .room-refusal .ensures) ∙ c .if2 .left
+
+header-refusal-requires : tie.Need-header-refusal-requires
+header-refusal-requires c κs = search needs
 
 returns : tie.Need-returns
 returns c =
-    let e = c .before .early-refusal .ensures in
-    kept _ _ _ (e ∙ early-stands _ _ _ (λ z. c .if1 .taken (e ∙ z))) (c .if1 .taken)
+    let e = c .before .header-refusal .ensures in
+    kept _ _ _ (e ∙ form-stands _ _ _ (λ z. c .if1 .taken (e ∙ z))) (c .if1 .taken)
+
+room-refusal-requires : tie.Need-room-refusal-requires
+room-refusal-requires c κs = search needs
+
+returns-2 : tie.Need-returns-2
+returns-2 c =
+    let e = c .before .room-refusal .ensures in
+    kept _ _ _ (e ∙ room-stands _ _ _ (form-none (c .before .before)) (λ z. c .if2 .taken (e ∙ z))) (c .if2 .taken)
 
 figure-refusal-requires : tie.Need-figure-refusal-requires
 figure-refusal-requires c κs = search needs
 
-returns-2 : tie.Need-returns-2
-returns-2 c =
-    let a = c .before .before .before .before .before .before .args in
-    let early = sym (c .before .before .before .early-refusal .ensures) ∙ c .before .before .if1 .left in
-    kept _ _ _ (c .before .figure-refusal .ensures ∙ figures-next (a .h) (a .s .now) (length (a .out .now)) early) (c .if2 .taken)
+returns-3 : tie.Need-returns-3
+returns-3 c =
+    let r = c .before .before in
+    kept _ _ _ (c .before .figure-refusal .ensures ∙ figures-next _ _ _ (form-none (r .before .before)) (room-none r)) (c .if3 .taken)
 
 write-result-requires : tie.Need-write-result-requires
 write-result-requires c κs =
-    let a = c .before .before .before .before .before .before .before .args in
-    let early = sym (c .before .before .before .before .early-refusal .ensures) ∙ c .before .before .before .if1 .left in
-    let figures = sym (c .before .before .figure-refusal .ensures) ∙ c .before .if2 .left in
-    let bytes = length (a .s .now) in
-    let room = length (a .out .now) in
-    ((month-limits (monthUnder (a .h) (a .s .now)) (within (a .h) bytes room early) figures, whole (a .h) bytes room early), enough-room (a .h) bytes room early)
+    let r = c .before .before .before in
+    let form = form-none (r .before .before) in
+    let a = r .before .before .before .before .before .before .args in
+    let figures = sym (c .before .before .figure-refusal .ensures) ∙ c .before .if3 .left in
+    ((month-limits (monthUnder (a .h) (a .s .now)) (within _ _ form) figures, whole _ _ form), enough-room _ _ (room-none r))
 
 same-length : tie.Need-same-length
 same-length c = search needs
 
-returns-3 : tie.Need-returns-3
-returns-3 c =
-    let a = c .before .before .before .before .before .before .before .before .before .before .args in
-    let early = sym (c .before .before .before .before .before .before .before .early-refusal .ensures) ∙ c .before .before .before .before .before .before .if1 .left in
-    let figures = sym (c .before .before .before .before .before .figure-refusal .ensures) ∙ c .before .before .before .before .if2 .left in
-    written (a .h) (a .s .now) (a .out .now) _ (sym (figures-next (a .h) (a .s .now) (length (a .out .now)) early) ∙ figures) (c .before .before .write-result .ensures)
+returns-4 : tie.Need-returns-4
+returns-4 c =
+    let e = c .before .before .before .before in
+    let r = e .before .before in
+    let a = r .before .before .before .before .before .before .args in
+    let figures = sym (e .before .figure-refusal .ensures) ∙ e .if3 .left in
+    written (a .h) (a .s .now) (a .out .now) _ (sym (figures-next _ _ _ (form-none (r .before .before)) (room-none r)) ∙ figures) (c .before .before .write-result .ensures)
 
 pub settle-month-spec : {M : Type 1} → statement M
 settle-month-spec =
     tie.close
     (tie.spec
-    early-refusal-requires
+    header-refusal-requires
     returns
-    figure-refusal-requires
+    room-refusal-requires
     returns-2
+    figure-refusal-requires
+    returns-3
     write-result-requires
     same-length
-    returns-3)
+    returns-4)

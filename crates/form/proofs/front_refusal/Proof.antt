@@ -1,9 +1,8 @@
-use Rattle.rules.specs.Refusals.{firstOf}
+use Rattle.rules.specs.Refusals.{frontTests, firstOf}
 use Rattle.rules.specs.Sheet.{lengthField, version}
-use Rattle.settlement.specs.Front.{frontTests}
 use borrow.Author.Needs.{needs}
-use Rattle.settlement.proofs.front_refusal.Statement.{statement}
-use Rattle.settlement.proofs.front_refusal.Tie as tie
+use Rattle.form.proofs.front_refusal.Statement.{statement}
+use Rattle.form.proofs.front_refusal.Tie as tie
 
 byte-requires : tie.Need-byte-requires
 byte-requires c κs = search needs
