@@ -1,5 +1,5 @@
 -- What a producer's rows are settled by: what is left to cut of them, and k1 to k10.
-use Prim.Native.Nat.{ℕ, _<_, min}
+use Prim.Native.Nat.{ℕ, _-_, _<_, min}
 use mathlib.Core.Path.{_≡_}
 use mathlib.Core.Bool.{cond, _||_}
 use mathlib.Core.List.{List, []}
@@ -9,9 +9,15 @@ use Rattle.rules.specs.declared.Header.{Header}
 use Rattle.rules.specs.Month.{Month}
 use Rattle.rules.specs.Sheet.{sheetLength, monthUnder}
 use Rattle.rules.specs.Cut.{leftToCut}
+use Rattle.rules.specs.ControlHours.{average}
 use Rattle.rules.specs.Coefficients.{coefficients}
+use Rattle.control.specs.declared.Control.{Control}
 use Rattle.figures.specs.Sums.{tenths}
 use Rattle.terms.specs.declared.Terms.{Terms}
+
+-- D of k1, from the control hours and the deductible capacity. [Coefficients, k1]
+abbrev pub overOf : Control → ℕ → ℕ
+overOf control deductible = average (control .counted .0) (control .count) - deductible
 
 -- Producer p when row j's turn comes. [Cut; Coefficients]
 abbrev pub termsAt : Month → ℕ → ℕ → Terms

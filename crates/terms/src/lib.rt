@@ -4,14 +4,13 @@ ghost use Prim.Native.Nat.{ℕ, _+_, _-_, _*_, _<_, _≤_};
 ghost use lib.ListN.{length, getD};
 ghost use Rattle.rules.specs.Month.{hours};
 ghost use Rattle.rules.specs.Sheet.{sheetLength, producerAt, hourAt, hoursWidth, monthUnder};
-ghost use Rattle.rules.specs.ControlHours.{average};
 ghost use Rattle.rules.specs.Bands.{bandOf, thousandths};
 ghost use Rattle.rules.specs.Cut.{summedCapacity};
 ghost use Rattle.rules.specs.Coefficients.{share, lessPenalty, coefficients};
 ghost use Rattle.volumes.specs.Volumes.{mostVolume, volumesOf};
 ghost use Rattle.hours.specs.Sums.{k4Of};
 ghost use Rattle.control.specs.Control.{controlOf};
-ghost use Rattle.terms.specs.Terms.{termsAt, termsOf, noTerms, withTerms};
+ghost use Rattle.terms.specs.Terms.{overOf, termsAt, termsOf, noTerms, withTerms};
 use coefficients::bids;
 use coefficients::overuse;
 use coefficients::penalty;
@@ -61,10 +60,7 @@ fn less_penalty(support: Tenths, penalty: u64) -> u64
 // k1.
 fn k1_of(control: Control, deductible: u32, support: Tenths) -> u64
     requires { ⌜ (control .counted .0 ≤ 4294967295 * control .count) × (support .0 ≤ mostVolume) ⌝ }
-    ensures { λ r. ⌜ r
-        ≡ lessPenalty (support .0)
-        (bandOf (thousandths (average (control .counted .0) (control .count) - deductible) deductible)
-        * (average (control .counted .0) (control .count) - deductible)) ⌝ }
+    ensures { λ r. ⌜ r ≡ lessPenalty (support .0) (bandOf (thousandths (overOf control deductible) deductible) * overOf control deductible) ⌝ }
 {
     let over = overuse(control.counted, control.count, Tenths::stated(deductible));
     less_penalty(support, penalty(over.0 as u32, deductible))

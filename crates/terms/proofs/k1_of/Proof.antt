@@ -1,7 +1,6 @@
 use native.Mathlib.Omega.{arith}
 use mathlib.Core.Path.{_≡_, ap, _∙_}
-use Prim.Native.Nat.{ℕ, _-_}
-use Rattle.rules.specs.ControlHours.{average}
+use Rattle.terms.specs.Terms.{overOf}
 use Rattle.terms.proofs.Fits.{average-fits}
 use borrow.Author.Needs.{needs}
 use Rattle.terms.proofs.k1_of.Statement.{statement}
@@ -11,8 +10,8 @@ stated-requires : tie.Need-stated-requires
 stated-requires c κs = search needs
 
 -- D, from the figures that were handed over.
-over : (c : tie.After-overuse) → c .overuse .result .0 ≡ average (c .before .before .args .control .counted .0) (c .before .before .args .control .count) - c .before .before .args .deductible
-over c = c .overuse .ensures ∙ ap (λ (x : ℕ). average (c .before .before .args .control .counted .0) (c .before .before .args .control .count) - x) (c .before .stated .ensures .0)
+over : (c : tie.After-overuse) → c .overuse .result .0 ≡ overOf (c .before .before .args .control) (c .before .before .args .deductible)
+over c = c .overuse .ensures ∙ ap (overOf (c .before .before .args .control)) (c .before .stated .ensures .0)
 
 overuse-requires : tie.Need-overuse-requires
 overuse-requires c κs = search needs
