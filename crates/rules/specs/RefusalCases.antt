@@ -1,10 +1,12 @@
 -- Sheets and months of our own for every refusal, at each limit and just past it, and the number that document 01 gives them.
 use Prim.Native.Nat.{ℕ}
 use mathlib.Core.List.{List, [], _∷_, _++_}
+use lib.ListN.{replicate}
+use Rattle.rules.specs.Range.{when}
 use Rattle.rules.specs.Units.{one}
 use Rattle.rules.specs.Month.{Producer, Month}
-use Rattle.rules.specs.Refusals.{figureTests, firstOf, refusal}
-use Rattle.rules.specs.Samples.{producer, row, consumer, month, every, atHour, Figure, figure, wrong}
+use Rattle.rules.specs.Refusals.{figureTests, tests, applies, firstOf, refusal}
+use Rattle.rules.specs.Samples.{producer, row, consumer, month, every, firstHours, Figure, figure, wrong}
 use Rattle.rules.specs.Open.{settlement, layout}
 use mathlib.Core.Path.{_≡_, refl}
 
@@ -16,14 +18,18 @@ header length version days weekday holidays P R C =
 abbrev noHoliday : List ℕ
 noHoliday = 0 ∷ 0 ∷ 0 ∷ 0 ∷ []
 
+-- A month with a single consumer whose z is 0.9 and all else 0.
+abbrev lowZ : List ℕ
+lowZ = header 29 1 28 1 noHoliday 0 0 1 ++ replicate 10 0 ++ (9 ∷ 0 ∷ 0 ∷ 0 ∷ 0 ∷ [])
+
 unfoldable pub formCases : List Figure
 formCases =
     -- a month without producers, rows and consumers, and a result buffer of 21 bytes, then of 20
     figure (refusal (header 14 1 28 1 noHoliday 0 0 0) 21) 0
     ∷ figure (refusal (header 14 1 28 1 noHoliday 0 0 0) 20) 7
-    -- nothing; 13 bytes
+    -- nothing; 13 bytes that say 14
     ∷ figure (refusal [] 21) 1
-    ∷ figure (refusal (0 ∷ 0 ∷ 0 ∷ 13 ∷ 1 ∷ 28 ∷ 1 ∷ 0 ∷ 0 ∷ 0 ∷ 0 ∷ 0 ∷ 0 ∷ []) 21) 1
+    ∷ figure (refusal (0 ∷ 0 ∷ 0 ∷ 14 ∷ 1 ∷ 28 ∷ 1 ∷ 0 ∷ 0 ∷ 0 ∷ 0 ∷ 0 ∷ 0 ∷ []) 21) 1
     -- the length field is one less and one more than 14
     ∷ figure (refusal (header 13 1 28 1 noHoliday 0 0 0) 21) 2
     ∷ figure (refusal (header 15 1 28 1 noHoliday 0 0 0) 21) 2
@@ -50,27 +56,44 @@ formCases =
     ∷ figure (refusal (header 14 2 27 1 noHoliday 7 0 0) 0) 3
     ∷ figure (refusal (header 14 1 27 1 noHoliday 7 0 0) 0) 4
     ∷ figure (refusal (header 14 1 28 1 noHoliday 7 0 0) 0) 5
+    -- a buffer one byte short of the result's 21 + 25, and z too low; then z alone. 12 applies to the first too, and there is no 13
+    ∷ figure (refusal lowZ 45) 7
+    ∷ figure (refusal lowZ 46) 12
+    ∷ figure (when (applies 12 (tests lowZ 45)) 1) 1
+    ∷ figure (when (applies 13 (tests lowZ 45)) 1) 0
     ∷ []
 
--- A month of 28 days (H 672) with one producer, one row to the single buyer and one consumer: row, contract volume, peak, T'', T''', z, price.
+-- Power at the ceiling in all hours of a month of 28 days (H 672); past its end it is above, which does not count.
+abbrev highest : ℕ → ℕ
+highest = firstHours 672 100000 (every 100001)
+
+-- Power 0 but in the last hour of that month, hour 23 of day 28, where it is above the ceiling.
+abbrev lastHour : ℕ → ℕ
+lastHour = firstHours 671 0 (every 100001)
+
+-- A producer with every figure at its limit.
 abbrev plain : Producer
-plain = producer 100000 100000 100000 672 672 672 [] (every 100000) (every 100000) (every 100000)
+plain = producer 100000 100000 100000 672 672 672 [] highest highest highest
 
+-- A producer after that one, with a row and a consumer at their limits.
 abbrev withProducer : Producer → Month
-withProducer p = month 28 1 0 (p ∷ []) (row 0 255 100000 200000000 ∷ []) (consumer 100000 100000 28 28 100 200000000 ∷ [])
+withProducer p = month 28 1 0 (plain ∷ p ∷ []) (row 0 255 100000 200000000 ∷ []) (consumer 100000 100000 28 28 100 200000000 ∷ [])
 
+-- A row after another, with one producer and three consumers: producer, consumer, volume, price.
 abbrev withRow : ℕ → ℕ → ℕ → ℕ → Month
-withRow p c volume price = month 28 1 0 (plain ∷ []) (row p c volume price ∷ []) (consumer 0 0 0 0 10 0 ∷ [])
+withRow p c volume price =
+    month 28 1 0
+    (plain ∷ [])
+    (row 0 255 0 0 ∷ row p c volume price ∷ [])
+    (consumer 0 0 0 0 10 0 ∷ consumer 0 0 0 0 10 0 ∷ consumer 0 0 0 0 10 0 ∷ [])
 
+-- A consumer before another: contract volume, peak, T'', T''', z, price.
 abbrev withConsumer : ℕ → ℕ → ℕ → ℕ → ℕ → ℕ → Month
-withConsumer contract peak supplier grid z price = month 28 1 0 [] [] (consumer contract peak supplier grid z price ∷ [])
+withConsumer contract peak supplier grid z price =
+    month 28 1 0 [] [] (consumer contract peak supplier grid z price ∷ consumer 0 0 0 0 10 0 ∷ [])
 
 abbrev numberOf : Month → ℕ
 numberOf m = firstOf (figureTests m)
-
--- One hour of the month, the last, above the ceiling; hours 0 to 22 of every day are not.
-abbrev lastHour : ℕ → ℕ
-lastHour = atHour 23 100001 (every 0)
 
 unfoldable pub figureCases : List Figure
 figureCases =
@@ -94,10 +117,11 @@ figureCases =
     ∷ figure (numberOf (withRow 0 255 100001 0)) 9
     ∷ figure (numberOf (withConsumer 100001 0 0 0 10 0)) 9
     ∷ figure (numberOf (withConsumer 0 100001 0 0 10 0)) 9
-    -- row's producer 0 of 1, then 1; consumer 0 of 1, then 1, 254 and 255
-    ∷ figure (numberOf (withRow 0 0 0 0)) 0
+    -- row's producer 0 of 1, then 1 and 2; consumer 2 of 3, then 3, 254 and 255
+    ∷ figure (numberOf (withRow 0 2 0 0)) 0
     ∷ figure (numberOf (withRow 1 0 0 0)) 10
-    ∷ figure (numberOf (withRow 0 1 0 0)) 10
+    ∷ figure (numberOf (withRow 2 0 0 0)) 10
+    ∷ figure (numberOf (withRow 0 3 0 0)) 10
     ∷ figure (numberOf (withRow 0 254 0 0)) 10
     ∷ figure (numberOf (withRow 0 255 0 0)) 0
     ∷ figure (numberOf (withRow 0 255 0 200000001)) 11
@@ -107,9 +131,12 @@ figureCases =
     ∷ figure (numberOf (withConsumer 0 0 0 0 9 0)) 12
     ∷ figure (numberOf (withConsumer 0 0 0 0 101 0)) 12
     -- several at once: the first number counts
+    ∷ figure (numberOf (withProducer (producer 100001 0 0 673 0 0 [] (every 0) (every 0) (every 0)))) 8
     ∷ figure (numberOf (withConsumer 100001 0 29 0 10 200000001)) 9
     ∷ figure (numberOf (withConsumer 0 0 29 0 10 200000001)) 11
     ∷ figure (numberOf (withRow 1 0 0 200000001)) 10
+    -- also across the sheet: the row has 10 and 11, the consumer after it 9
+    ∷ figure (numberOf (month 28 1 0 [] (row 0 255 0 200000001 ∷ []) (consumer 100001 0 0 0 10 0 ∷ []))) 9
     ∷ []
 
 unfoldable pub refusalCases : List Figure

@@ -39,7 +39,8 @@ abbrev pub consumer : ℕ → ℕ → ℕ → ℕ → ℕ → ℕ → Consumer
 consumer contract peak supplier grid z price =
     record { contract = contract; peak = peak; supplier = supplier; grid = grid; z = z; price = price }
 
--- Days, weekday of day 1, holidays; the producers, rows and consumers.
+-- Days, weekday of day 1, holidays; the producers, rows and consumers. Past the last of each stands one that no sum may
+-- count and no sheet may have: attested 10,000.1, volume 10,000.1, z 0.9.
 unfoldable pub month : ℕ → ℕ → ℕ → List Producer → List Row → List Consumer → Month
 month days weekday holidays ps rs cs =
     record {
@@ -52,9 +53,9 @@ month days weekday holidays ps rs cs =
             rows = length rs;
             consumers = length cs;
           };
-      producer = λ p. getD ps p (producer 0 0 0 0 0 0 [] (λ i. 0) (λ i. 0) (λ i. 0));
-      row = λ j. getD rs j (row 0 0 0 0);
-      consumer = λ c. getD cs c (consumer 0 0 0 0 0 0);
+      producer = λ p. getD ps p (producer 100001 0 0 0 0 0 [] (λ i. 0) (λ i. 0) (λ i. 0));
+      row = λ j. getD rs j (row 0 0 100001 1000);
+      consumer = λ c. getD cs c (consumer 1000 1000 0 0 9 1000);
     }
 
 -- The same figure in every hour; one figure in an hour of each day and another in the rest; one figure in the first hours of the month.

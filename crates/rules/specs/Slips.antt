@@ -2,10 +2,10 @@
 -- Figures are in the unit's whole numbers: tenths of a megawatt, thousandths for p, tenths for n, millionths for coefficients, tiyn.
 use Prim.Native.Nat.{ℕ}
 use mathlib.Core.List.{List, [], _∷_, _++_}
-use Rattle.rules.specs.Units.{one}
+use Rattle.rules.specs.Units.{one, millionthsCeiling}
 use Rattle.rules.specs.Month.{Month}
 use Rattle.rules.specs.ControlHours.{controlCount, controlAverage}
-use Rattle.rules.specs.Cut.{afterCut}
+use Rattle.rules.specs.Cut.{excess, afterCut, cutInOrder, ownRows}
 use Rattle.rules.specs.Rows.{actual, payment}
 use Rattle.rules.specs.Consumers.{credit, countedPeak, percent, band, volume, charge}
 use Rattle.rules.specs.Totals.{totalPaid, totalCharged}
@@ -32,8 +32,8 @@ controlHourFigures =
     figure (controlHoursOf (useMonth 30 1 0 (every 0))) 132
     -- 31 days from a Saturday: 2 days, then 4 weeks and a Monday, 21 days
     ∷ figure (controlHoursOf (useMonth 31 6 0 (every 0))) 126
-    -- the same with days 1 and 3 as holidays (bits 1 + 4): day 1 is a Saturday anyway, day 3 a Monday
-    ∷ figure (controlHoursOf (useMonth 31 6 5 (every 0))) 120
+    -- the same with days 1 and 4 as holidays (bits 1 + 8): day 1 is a Saturday anyway, day 4 a Tuesday
+    ∷ figure (controlHoursOf (useMonth 31 6 9 (every 0))) 120
     -- 28 days from a Sunday with day 28, a Saturday, as a holiday (2^27): 4 weeks of 5 days
     ∷ figure (controlHoursOf (useMonth 28 7 134217728 (every 0))) 120
     -- hours 16 and 23 do not count: 100.0 stays, though both read 900.0. With hour 23: (6 × 100 + 900) / 7 = 214.3
@@ -141,9 +141,9 @@ hourFigures =
     -- possible 80.0 below S, working 60.0: 60 / 80; working above possible counts as possible: 1
     ∷ figure (k4 (powerMonth 100000 1000 100 (every 600) (every 800))) 750000
     ∷ figure (k4 (powerMonth 100000 1000 100 (every 900) (every 800))) 1000000
-    -- the sums, not a mean of hours: working 0 in the first 360 hours of possible 30.0, full in the rest of possible 10.0
-    -- m is 360 × 30 + 360 × 10 = 14,400; met 3,600; 0.25
-    ∷ figure (k4 (powerMonth 100000 1000 0 (firstHours 360 0 (every 100)) (firstHours 360 300 (every 100)))) 250000
+    -- the sums over hours, not a mean of hours: possible 30.0 in the first 360 hours and 10.0 in the rest, working 20.0 in all;
+    -- m is 360 × 30 + 360 × 10 = 14,400; met 360 × 20 + 360 × 10 = 10,800; 0.75. All working power, 720 × 20, over m would be 1
+    ∷ figure (k4 (powerMonth 100000 1000 0 (every 200) (firstHours 360 300 (every 100)))) 750000
     -- half upward: possible 0.8 in 720 hours is 576.0; working 0.1 in 45 of them is 4.5; 1 / 128 = 0.0078125
     ∷ figure (k4 (powerMonth 100000 1000 0 (firstHours 45 1 (every 0)) (every 8))) 7813
     -- the sum of m is 0: possible 0, or S 0
@@ -160,15 +160,38 @@ hourFigures =
 
 -- The cut and the rows --------------------------------------------------------------------------------------------------------------
 
--- A producer with attested capacity, deductible and own needs, and others' rows among its own; all coefficients 1.
+-- A producer with attested capacity, deductible and own needs; all coefficients 1. Among its rows one of another producer,
+-- whose attested capacity just covers it and whose k3 is 0.5.
 unfoldable pub cutMonth : ℕ → ℕ → ℕ → Month
 cutMonth attested deductible ownNeeds =
     month 30 1 0
     (producer attested deductible ownNeeds 0 0 0 [] (every 0) (every 0) (every 0)
-    ∷ producer 100000 0 0 0 0 0 [] (every 0) (every 0) (every 0)
+    ∷ producer 700 0 0 0 0 0 (500000 ∷ []) (every 0) (every 0) (every 0)
     ∷ [])
     (row 0 255 600 0 ∷ row 1 255 700 0 ∷ row 0 0 400 0 ∷ row 0 255 200 0 ∷ [])
     (consumer 0 0 0 0 10 0 ∷ [])
+
+-- Outside use of 11.9 in hours 17 to 19 and 12.0 in hours 20 to 22: on average 11.95, rounded 12.0. Hour 0 does not count.
+abbrev mixedUse : ℕ → ℕ
+mixedUse = atHour 0 9000 (atHour 17 119 (atHour 18 119 (atHour 19 119 (every 120))))
+
+-- A producer with that use and attested capacity; T 100.0, B 50.0, deductible 10.0, so S is 160.0; possible power 200.0, working
+-- power 120.0. D is 2.0, p 200, n 1.3: k1 = 1 - 1.3 × 2 / 100 = 0.974. k4 = 120 / 160 = 0.75.
+unfoldable pub soldMonth : ℕ → Month
+soldMonth attested =
+    month 30 1 0
+    (producer attested 100 0 0 0 0 [] (every 1200) (every 2000) mixedUse ∷ [])
+    (row 0 255 1000 0 ∷ row 0 0 500 0 ∷ [])
+    (consumer 0 0 0 0 10 0 ∷ [])
+
+-- A support row of 0.1 and one of 9,999.9, so T is 10,000.0, with deductible 0.3 and own needs that keep the cut away; outside
+-- use, hours without an upward bid and without a plan, the given coefficients, and working power, of possible 1,000.0.
+unfoldable pub orderMonth : ℕ → ℕ → ℕ → List ℕ → (ℕ → ℕ) → Month
+orderMonth outside up plan given working =
+    month 30 1 0
+    (producer 100000 3 100000 up 0 plan given working (every 10000) (every outside) ∷ [])
+    (row 0 255 1 0 ∷ row 0 255 99999 0 ∷ [])
+    []
 
 -- A support row with a volume and a price, the given coefficients, and k4 as working power over possible 10,000.0: a second row
 -- of 10,000.0 keeps S above that, and own needs of 10,000.0 keep the cut away.
@@ -185,17 +208,28 @@ rowFigures =
     figure (afterCut (cutMonth 700 0 0) 0) 100
     ∷ figure (afterCut (cutMonth 700 0 0) 2) 400
     ∷ figure (afterCut (cutMonth 700 0 0) 3) 200
-    -- attested 35.0: 60.0 from the first row, 25.0 from the next of its own; the other producer's row stays
+    -- attested 35.0: 60.0 from the first row, 25.0 from the next of its own, nothing from the last; the other producer's row
+    -- stays, and its own producer's k3 halves it
     ∷ figure (afterCut (cutMonth 350 0 0) 0) 0
     ∷ figure (afterCut (cutMonth 350 0 0) 1) 700
+    ∷ figure (actual (cutMonth 350 0 0) 1) 350
     ∷ figure (afterCut (cutMonth 350 0 0) 2) 150
+    ∷ figure (afterCut (cutMonth 350 0 0) 3) 200
     -- attested 0: all rows; deductible 10.0 is in S and has no row to give
     ∷ figure (afterCut (cutMonth 0 100 0) 3) 0
     -- deductible 10.0 adds to the excess, own needs 30.0 take from it: 130 - 30 - 70 = 30.0; own needs above S: nothing is cut
     ∷ figure (afterCut (cutMonth 700 100 300) 0) 300
     ∷ figure (afterCut (cutMonth 0 100 1400) 0) 600
-    -- each given coefficient counts once: 6.4 × 0.5 six times = 0.1
-    ∷ figure (actual (rowMonth 64 0 (500000 ∷ 500000 ∷ 500000 ∷ 500000 ∷ 500000 ∷ 500000 ∷ []) 100000) 0) 1
+    -- D from the rounded average: from 11.95 k1 would be 1 - 1.3 × 1.95 / 100 = 0.97465
+    ∷ figure (k1 (soldMonth 1600)) 974000
+    -- k1 and k4 count in rows of both kinds: 100 × 0.974 × 0.75 = 73.05, half upward; 50 × 0.974 × 0.75 = 36.525
+    ∷ figure (actual (soldMonth 1600) 0) 731
+    ∷ figure (actual (soldMonth 1600) 1) 365
+    -- attested 155.0 cuts 5.0 from the first row: 95 × 0.974 = 92.53; × 0.75 = 69.3975. T and S are those before the cut: with
+    -- T 95.0 k1 would be 0.972632, and the row 69.3; with S 155.0 k4 would be 0.774194, and the row 71.6
+    ∷ figure (actual (soldMonth 1550) 0) 694
+    -- each given coefficient counts once: 3,000 × 0.9 × 0.8 × 0.7 × 0.6 × 0.5 × 0.4 = 3,000 × 0.06048 = 181.44
+    ∷ figure (actual (rowMonth 30000 0 (900000 ∷ 800000 ∷ 700000 ∷ 600000 ∷ 500000 ∷ 400000 ∷ []) 100000) 0) 1814
     -- k5 counts too: 360 of 720 hours without a plan halve 10.0
     ∷ figure
     (actual
@@ -214,9 +248,21 @@ rowFigures =
     ∷ figure (actual (rowMonth 1 0 (one ∷ one ∷ 499995 ∷ 999990 ∷ []) 100000) 0) 1
     ∷ figure (actual (rowMonth 1 0 (one ∷ one ∷ one ∷ 499995 ∷ 999990 ∷ []) 100000) 0) 1
     ∷ figure (actual (rowMonth 1 0 (one ∷ one ∷ one ∷ one ∷ 499995 ∷ 999990 ∷ []) 100000) 0) 1
-    -- payment from the actual volume, half upward: 0.3 × 15 tiyn = 4.5; half of 1.0 at 100 tiyn = 50
+    -- for k1 and k2, k2 and k3, k4 and k5, k5 and k6: one of the two is 0.5 (360 of 720 hours) and the other 0.999985.
+    -- If 0.999985 comes first: 0.1 × 0.999985 = 0.0999985, rounded 0.099999; × 0.5 = 0.0499995, rounded 0.050000; so 0.1.
+    -- If 0.5 does: 0.05 × 0.999985 = 0.04999925, rounded 0.049999; so 0.
+    -- k1 of outside use 0.4: D 0.1 over 0.3, p 333, n 1.5; 1 - 1.5 × 0.1 / 10,000. k4 of working power 989.2 in the first hour:
+    -- 1 - 10.8 / (720 × 1,000)
+    ∷ figure (actual (orderMonth 4 360 0 [] (every 10000)) 0) 1
+    ∷ figure (actual (orderMonth 0 360 0 (999985 ∷ []) (every 10000)) 0) 0
+    ∷ figure (actual (orderMonth 0 0 360 [] (firstHours 1 9892 (every 10000))) 0) 1
+    ∷ figure (actual (orderMonth 0 0 360 (one ∷ 999985 ∷ []) (every 10000)) 0) 0
+    -- payment from the actual volume, nearest, half upward: 0.3 × 15 tiyn = 4.5; half of 0.6 at 11 tiyn = 3.3
     ∷ figure (payment (rowMonth 3 15 [] 100000) 0) 5
-    ∷ figure (payment (rowMonth 10 100 (500000 ∷ []) 100000) 0) 50
+    ∷ figure (payment (rowMonth 6 11 (500000 ∷ []) 100000) 0) 3
+    -- the largest volume at the largest price: 10,000 × 200,000,000 tiyn. The ceiling of a product is that volume in millionths
+    ∷ figure (payment (rowMonth 100000 200000000 [] 100000) 0) 2000000000000
+    ∷ figure millionthsCeiling 10000000000
     ∷ []
 
 -- Consumers -----------------------------------------------------------------------------------------------------------------------------
@@ -235,6 +281,8 @@ unfoldable pub consumerFigures : List Figure
 consumerFigures =
     -- band edges over DO 200.0, with 1.05 × DO = 210.0 and 0.05 × DO = 10.0; p is Do × 5. Do 10.0, p 50: n is 0
     figure (peakVolume 2000 2200) 2000
+    -- the volume does not show that n is 0, since Do - 0.05 × DO is 0 too
+    ∷ figure (band (peakMonth 2000 2200 0 0 10 0) 0) 0
     -- Do 10.2, p 51: 200 + 1.3 × 0.2 = 200.26
     ∷ figure (peakVolume 2000 2202) 2003
     -- Do 40.0, p 200: 200 + 1.3 × 30 = 239. Less 5 percent once only: 200 + 1.3 × 40 = 252
@@ -288,21 +336,22 @@ unfoldable pub creditMonth : Month
 creditMonth =
     month 30 1 0
     (producer 100000 0 0 0 0 0 (500000 ∷ []) (every 0) (every 0) (every 0) ∷ [])
-    (row 0 1 600 100 ∷ row 0 255 5000 200 ∷ row 0 1 201 300 ∷ row 0 0 4000 400 ∷ [])
-    (consumer 1000 1500 0 0 10 100 ∷ consumer 1000 1501 0 0 10 100 ∷ [])
+    (row 0 1 601 105 ∷ row 0 255 5000 200 ∷ row 0 1 201 305 ∷ row 0 0 4000 400 ∷ [])
+    (consumer 1000 1500 0 0 10 100 ∷ consumer 1000 1502 0 0 10 100 ∷ [])
 
 unfoldable pub creditFigures : List Figure
 creditFigures =
-    -- actual volumes 30.0, 250.0, 10.05 rounded 10.1, 200.0; the support row credits nobody
+    -- actual volumes 30.05 rounded 30.1, 250.0, 10.05 rounded 10.1, 200.0; the support row credits nobody
     figure (credit creditMonth 0) 2000
-    ∷ figure (credit creditMonth 1) 401
-    -- the first credit is above the peak: counted peak 0, DO is paid; the second leaves 150.1 - 40.1 = 110.0, so Do 5.0 and p 50
+    ∷ figure (credit creditMonth 1) 402
+    -- the first credit is above the peak: counted peak 0, DO is paid; the second leaves 150.2 - 40.2 = 110.0, so Do 5.0 and p 50
     ∷ figure (countedPeak creditMonth 0) 0
     ∷ figure (percent creditMonth 1) 50
-    -- paid: 30 × 100 + 250 × 200 + 10.1 × 300 + 200 × 400 = 3,000 + 50,000 + 3,030 + 80,000
-    ∷ figure (totalPaid creditMonth) 136030
-    -- charged, to two consumers without a credit: 100 × 100 and 200 × 300
-    ∷ figure (totalCharged (month 30 1 0 [] [] (consumer 1000 0 0 0 10 100 ∷ consumer 2000 0 0 0 10 300 ∷ []))) 70000
+    -- paid, each payment rounded: 30.1 × 105 = 3,160.5, so 3,161; 250 × 200 = 50,000; 10.1 × 305 = 3,080.5, so 3,081;
+    -- 200 × 400 = 80,000
+    ∷ figure (totalPaid creditMonth) 136242
+    -- charged, to two consumers without a credit: 100.1 × 105 = 10,510.5, so 10,511; 200.1 × 305 = 61,030.5, so 61,031
+    ∷ figure (totalCharged (month 30 1 0 [] [] (consumer 1001 0 0 0 10 105 ∷ consumer 2001 0 0 0 10 305 ∷ []))) 71542
     ∷ []
 
 unfoldable pub slips : List Figure
@@ -310,5 +359,13 @@ slips = controlHourFigures ++ k1Figures ++ hourFigures ++ rowFigures ++ consumer
 
 -- All at once, by computation: no figure is wrong.
 pub no-slip : wrong slips ≡ []
-unfolding settlement useMonth controlHourFigures k1Month noSupportMonth k1Figures hoursMonth powerMonth hourFigures cutMonth rowMonth rowFigures peakMonth consumerFigures creditMonth creditFigures slips
+unfolding settlement useMonth controlHourFigures k1Month noSupportMonth k1Figures hoursMonth powerMonth hourFigures cutMonth soldMonth orderMonth rowMonth rowFigures peakMonth consumerFigures creditMonth creditFigures slips
 no-slip = refl
+
+-- The cut of a month's first producer as it is told, row by row: 85.0 from its own rows of 60.0, 40.0 and 20.0.
+abbrev toldCut : Month → List ℕ
+toldCut m = cutInOrder (excess m 0) (ownRows m 0 (λ j. m .row j .volume) (m .header .rows))
+
+pub cut-in-order : toldCut (cutMonth 350 0 0) ≡ 0 ∷ 150 ∷ 200 ∷ []
+unfolding settlement cutMonth cutInOrder ownRows
+cut-in-order = refl

@@ -1,0 +1,64 @@
+"""Mutants that no figure can tell from the definitions, with the reason.
+
+They give the same answer for every sheet, or for every sheet that the numbers 1 to 12 let pass. A mutant is named as it
+is printed, or by its definition and what was done there, or only by what was done.
+"""
+
+ALIKE = [
+    ("oneOf asks whether some test of a list holds: neither the order of the tests nor one asked twice changes that",
+     ["doubled in oneOf",
+      "exchanged in oneOf"]),
+    ("the first test that applies is the same where one is asked twice",
+     ["Refusals.formTests, doubled",
+      "Refusals.roomTests, doubled",
+      "Refusals.figureTests, doubled",
+      "Refusals.tests, doubled"]),
+    ("a row of the table that stands twice gives what it gives once: the first whose edge p does not pass counts",
+     ["Bands.bands, doubled"]),
+    ("the table's last row is open above: its edge is never asked",
+     ["Bands.bands: upTo 4294967295 20 → upTo 4294967296 20",
+      "Bands.bands: upTo 4294967295 20 → upTo 4294967294 20"]),
+    ("the table has rows: an empty one is never asked",
+     ["Bands.factorOf: 0 → 1"]),
+    ("a month's last hour is hour 23 of its day and the hour after it would be hour 0: neither is a control hour",
+     ["ControlHours.controlSum: sum (counted h series) (hours h) → sum (counted h series) (hours h + 1)",
+      "ControlHours.controlSum: sum (counted h series) (hours h) → sum (counted h series) (hours h - 1)"]),
+    ("the row past the last is read from the first consumer's contract volume, whose second byte is at most 1 "
+     "(number 9), or past the end as 0: it is never a support row",
+     ["Cut.supportVolume: sum (ownSupport m p) (m .header .rows) → sum (ownSupport m p) (m .header .rows + 1)"]),
+    ("a difference ends at 0, so v - min v left is v - left, and left - min v left is left - v",
+     ["Cut.cutInOrder: min v left → left",
+      "Cut.cutInOrder: min v left → min left left",
+      "Cut.cutInOrder: min v left → v (2)",
+      "Cut.cutInOrder: min v left → min v v (2)"]),
+    ("a product is the same in either order",
+     ["Rows.payment: money (actual m j) (m .row j .price) → money (m .row j .price) (actual m j)",
+      "Consumers.charge: money (volume m c) (m .consumer c .price) → money (m .consumer c .price) (volume m c)"]),
+    ("a support row names consumer 255, and no sheet has so many consumers (number 5)",
+     ["Consumers.credited: bilateral m j && eqb (m .row j .consumer) c → eqb (m .row j .consumer) c"]),
+    ("a byte past the end is read only of a sheet that number 1 or 6 refuses, whatever that byte is",
+     ["Fields.bigEndian: getD s (at + w) 0 → getD s (at + w) 1"]),
+    ("a number that is at most 0 is 0",
+     ["Outcome.outcome: eqb (refusal s room) 0 → leb (refusal s room) 0",
+      "Outcome.bufferAfter: eqb (refusal s (length out)) 0 → leb (refusal s (length out)) 0",
+      "Outcome.hoursStretch: eqb (firstOf (formTests s)) 0 → leb (firstOf (formTests s)) 0"]),
+]
+
+
+def names(mutant):
+    """All ways to name a mutant in the table."""
+    return (mutant.step, f"{mutant.module}.{mutant.name}, {mutant.step}", mutant.label())
+
+
+def reason(mutant):
+    """Why no figure can tell a mutant from the definitions, or nothing."""
+    for words, entries in ALIKE:
+        if any(name in entries for name in names(mutant)):
+            return words
+    return ""
+
+
+def stale(survivors):
+    """Entries of the table that are no survivor's."""
+    alive = {name for mutant in survivors for name in names(mutant)}
+    return [entry for _, entries in ALIKE for entry in entries if entry not in alive]
