@@ -11,7 +11,7 @@ use Rattle.rules.specs.Totals.{totalPaid, totalCharged}
 use Rattle.rules.specs.Fields.{bigEndian, bytesOf, laid, widthOf, joined, over}
 use Rattle.rules.specs.Sheet.{lengthField, version, producerAt, hourAt, rowAt, consumerAt, sheetLength}
 use Rattle.rules.specs.Result.{resultLength, rowRecord, consumerRecord, resultOf}
-use Rattle.rules.specs.Refusals.{oneOf, badMonth, tooMany, badShare, tooHigh, highHour, highProducer, highRow, highConsumer, badReference, tooDear, badFactor, frontTests, headerTests, formTests, roomTests, figureTests, tests, applies, firstOf, refusal}
+use Rattle.rules.specs.Refusals.{oneOf, badMonth, tooMany, badShare, tooHigh, highHour, highProducer, highRow, highConsumer, badReference, tooDear, badFactor, frontTests, headerTests, formTests, roomTests, figureTests, sheetTests, tests, applies, firstOf, refusal}
 use Rattle.rules.specs.Outcome.{outcome, bufferAfter}
 use Rattle.rules.specs.Samples.{month, wrong}
 
@@ -22,5 +22,5 @@ settlement = tt
 
 -- From a sheet's bytes to its month, its refusal, and the result's bytes.
 unfoldable pub layout : Unit {0}
-unfolding bigEndian bytesOf laid widthOf joined over lengthField version producerAt hourAt rowAt consumerAt sheetLength resultLength rowRecord consumerRecord resultOf oneOf badMonth tooMany badShare tooHigh highHour highProducer highRow highConsumer badReference tooDear badFactor frontTests headerTests formTests roomTests figureTests tests applies firstOf refusal outcome bufferAfter
+unfolding bigEndian bytesOf laid widthOf joined over lengthField version producerAt hourAt rowAt consumerAt sheetLength resultLength rowRecord consumerRecord resultOf oneOf badMonth tooMany badShare tooHigh highHour highProducer highRow highConsumer badReference tooDear badFactor frontTests headerTests formTests roomTests figureTests sheetTests tests applies firstOf refusal outcome bufferAfter
 layout = tt

@@ -5,7 +5,7 @@ use lib.ListN.{replicate}
 use Rattle.rules.specs.Range.{when}
 use Rattle.rules.specs.Units.{one}
 use Rattle.rules.specs.Month.{Producer, Month}
-use Rattle.rules.specs.Refusals.{figureTests, tests, applies, firstOf, refusal}
+use Rattle.rules.specs.Refusals.{figureTests, sheetTests, tests, applies, firstOf, refusal}
 use Rattle.rules.specs.Samples.{producer, row, consumer, month, every, firstHours, Figure, figure, wrong}
 use Rattle.rules.specs.Open.{settlement, layout}
 use mathlib.Core.Path.{_≡_, refl}
@@ -18,9 +18,9 @@ header length version days weekday holidays P R C =
 abbrev noHoliday : List ℕ
 noHoliday = 0 ∷ 0 ∷ 0 ∷ 0 ∷ []
 
--- A month with a single consumer whose z is 0.9 and all else 0.
-abbrev lowZ : List ℕ
-lowZ = header 29 1 28 1 noHoliday 0 0 1 ++ replicate 10 0 ++ (9 ∷ 0 ∷ 0 ∷ 0 ∷ 0 ∷ [])
+-- A month with a single consumer whose z is 0.9 and all else 0, in a sheet of a version.
+abbrev lowZ : ℕ → List ℕ
+lowZ version = header 29 version 28 1 noHoliday 0 0 1 ++ replicate 10 0 ++ (9 ∷ 0 ∷ 0 ∷ 0 ∷ 0 ∷ [])
 
 unfoldable pub formCases : List Figure
 formCases =
@@ -57,10 +57,13 @@ formCases =
     ∷ figure (refusal (header 14 1 27 1 noHoliday 7 0 0) 0) 4
     ∷ figure (refusal (header 14 1 28 1 noHoliday 7 0 0) 0) 5
     -- a buffer one byte short of the result's 21 + 25, and z too low; then z alone. 12 applies to the first too, and there is no 13
-    ∷ figure (refusal lowZ 45) 7
-    ∷ figure (refusal lowZ 46) 12
-    ∷ figure (when (applies 12 (tests lowZ 45)) 1) 1
-    ∷ figure (when (applies 13 (tests lowZ 45)) 1) 0
+    ∷ figure (refusal (lowZ 1) 45) 7
+    ∷ figure (refusal (lowZ 1) 46) 12
+    ∷ figure (when (applies 12 (tests (lowZ 1) 45)) 1) 1
+    ∷ figure (when (applies 13 (tests (lowZ 1) 45)) 1) 0
+    -- without a buffer: z too low; and in a sheet of version 2
+    ∷ figure (firstOf (sheetTests (lowZ 1))) 12
+    ∷ figure (firstOf (sheetTests (lowZ 2))) 3
     ∷ []
 
 -- Power at the ceiling in all hours of a month of 28 days (H 672); past its end it is above, which does not count.
