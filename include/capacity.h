@@ -5,7 +5,7 @@
  * returns. Nothing is allocated, and no state is kept from one call to the next. Each pointer is to lead to as many
  * bytes as the length after it says and may not be null; the two buffers must not overlap.
  *
- * Sheet and result are laid out as document 01 says: every field unsigned, big-endian, no padding.
+ * Sheet and result are laid out as docs/RULES.md says: every field unsigned, big-endian, no padding.
  */
 #ifndef CAPACITY_H
 #define CAPACITY_H
@@ -24,17 +24,108 @@ extern "C" {
 #define CAPACITY_LARGEST_RESULT 1333
 
 /*
+ * The refusals: an answer of -CAPACITY_NO_HEADER and so on. They are tried in this order; docs/RULES.md has each cause.
+ */
+enum capacity_refusal {
+    CAPACITY_NO_HEADER = 1,       /* fewer than 14 bytes */
+    CAPACITY_WRONG_LENGTH = 2,    /* the length field is not the count of bytes */
+    CAPACITY_OTHER_VERSION = 3,   /* the version is unknown */
+    CAPACITY_BAD_MONTH = 4,       /* days, weekday or holidays */
+    CAPACITY_TOO_MANY = 5,        /* producers, rows or consumers */
+    CAPACITY_LENGTH_OFF = 6,      /* the length does not go with month and counts */
+    CAPACITY_SHORT_BUFFER = 7,    /* the result buffer is shorter than the result */
+    CAPACITY_BAD_SHARE = 8,       /* a count of hours or a given coefficient */
+    CAPACITY_HIGH_FIGURE = 9,     /* a capacity, power, volume or peak */
+    CAPACITY_BAD_REFERENCE = 10,  /* a row's producer or consumer */
+    CAPACITY_HIGH_PRICE = 11,     /* a price */
+    CAPACITY_BAD_FACTOR = 12      /* mining days or z */
+};
+
+/*
  * Settles one month's sheet.
  *
  * The answer, if it is above 0, is the count of bytes written to the front of the result buffer:
  * 21 + 16 for each row + 25 for each consumer. Bytes past the result keep what they had.
  *
- * If it is below 0, the sheet is turned down: the answer is minus the refusal's number, -1 to -12, as document 01
- * counts them (-7: the result buffer is shorter than the result). Every byte of the result buffer keeps what it had.
+ * If it is below 0, the sheet is turned down: the answer is minus the refusal's number (-CAPACITY_SHORT_BUFFER: the
+ * result buffer is shorter than the result). Every byte of the result buffer keeps what it had.
  *
  * The answer is never 0. Any bytes may be handed over as a sheet.
  */
 int64_t capacity_settle(const uint8_t *sheet, size_t sheet_length, uint8_t *result, size_t result_length);
+
+/*
+ * Reading a result. The counts of rows and consumers are the sheet's, at places 12 and 13 of its header; what is read is
+ * to lie below them in a result that capacity_settle wrote. Volumes are in tenths of a megawatt, money is in tiyn.
+ */
+struct capacity_row {
+    uint32_t after_cut; /* volume after the cut */
+    uint32_t actual;    /* actual volume */
+    uint64_t payment;
+};
+
+struct capacity_consumer_line {
+    uint32_t credit;
+    uint32_t percent; /* p, in thousandths */
+    uint8_t band;     /* n, in tenths */
+    uint64_t volume;  /* actual volume */
+    uint64_t charge;
+};
+
+struct capacity_totals {
+    uint64_t paid;
+    uint64_t charged;
+};
+
+static inline size_t capacity_rows(const uint8_t *sheet)
+{
+    return sheet[12];
+}
+
+static inline size_t capacity_consumers(const uint8_t *sheet)
+{
+    return sheet[13];
+}
+
+/* The number in so many bytes, the highest first. */
+static inline uint64_t capacity_number(const uint8_t *at, size_t bytes)
+{
+    uint64_t number = 0;
+    for (size_t i = 0; i < bytes; i++)
+        number = number << 8 | at[i];
+    return number;
+}
+
+static inline struct capacity_row capacity_read_row(const uint8_t *result, size_t row)
+{
+    const uint8_t *at = result + 5 + 16 * row;
+    struct capacity_row read;
+    read.after_cut = (uint32_t)capacity_number(at, 4);
+    read.actual = (uint32_t)capacity_number(at + 4, 4);
+    read.payment = capacity_number(at + 8, 8);
+    return read;
+}
+
+static inline struct capacity_consumer_line capacity_read_consumer(const uint8_t *result, size_t rows, size_t consumer)
+{
+    const uint8_t *at = result + 5 + 16 * rows + 25 * consumer;
+    struct capacity_consumer_line read;
+    read.credit = (uint32_t)capacity_number(at, 4);
+    read.percent = (uint32_t)capacity_number(at + 4, 4);
+    read.band = at[8];
+    read.volume = capacity_number(at + 9, 8);
+    read.charge = capacity_number(at + 17, 8);
+    return read;
+}
+
+static inline struct capacity_totals capacity_read_totals(const uint8_t *result, size_t rows, size_t consumers)
+{
+    const uint8_t *at = result + 5 + 16 * rows + 25 * consumers;
+    struct capacity_totals read;
+    read.paid = capacity_number(at, 8);
+    read.charged = capacity_number(at + 8, 8);
+    return read;
+}
 
 #ifdef __cplusplus
 }

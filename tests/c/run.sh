@@ -38,6 +38,12 @@ else
     echo "C++ example: left out, there is no $CXX"
 fi
 
+# The header's readers of a result, from C and C++.
+strict "$CC" -std=c99 -O1 -o "$out/readers" tests/c/readers.c || fail "readers.c does not build"
+results=$("$out/readers" crates/vectors/data/*) || fail "the header's readers read a stored result otherwise"
+[ "$results" -gt 0 ] || fail "no stored result was read"
+echo "readers: $results stored results, every figure"
+
 # Without a C library.
 strict "$CC" -std=c99 -ffreestanding -fno-stack-protector -nostdlib -static -o "$out/bare" tests/c/bare.c "$archive" ||
     fail "the program without a C library does not build"

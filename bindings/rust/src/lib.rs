@@ -4,14 +4,18 @@
 
 use core::fmt;
 
+mod figures;
+
+pub use figures::{ConsumerLine, Figures, RowLine, Totals};
+
 /// The longest sheet, in bytes: 6 producers, 31 days, 32 rows, 32 consumers.
 pub const LARGEST_SHEET: usize = 14 + 6 * (42 + 288 * 31) + 10 * 32 + 15 * 32;
 
 /// The longest result, in bytes: 32 rows, 32 consumers. A buffer of this size is long enough for every sheet.
 pub const LARGEST_RESULT: usize = 21 + 16 * 32 + 25 * 32;
 
-/// Why a sheet was turned down: the first of document 01's numbers that applies. The result buffer keeps every byte.
-#[derive(Clone, Copy, Debug, PartialEq, Eq, PartialOrd, Ord, Hash)]
+/// Why a sheet was turned down: the first of the numbers of docs/RULES.md that applies. The result buffer keeps every byte.
+#[derive(Clone, Copy, Debug, PartialEq, Eq, Hash)]
 pub struct Refusal(u8);
 
 /// The words for each number, from 1 on.
@@ -31,7 +35,32 @@ const WORDS: [&str; 12] = [
 ];
 
 impl Refusal {
-    /// Document 01's number, 1 to 12.
+    /// Fewer than 14 bytes.
+    pub const NO_HEADER: Refusal = Refusal(1);
+    /// The length field is not the count of bytes.
+    pub const WRONG_LENGTH: Refusal = Refusal(2);
+    /// The version is unknown.
+    pub const OTHER_VERSION: Refusal = Refusal(3);
+    /// Days, weekday or holidays.
+    pub const BAD_MONTH: Refusal = Refusal(4);
+    /// Producers, rows or consumers.
+    pub const TOO_MANY: Refusal = Refusal(5);
+    /// The length does not go with month and counts.
+    pub const LENGTH_OFF: Refusal = Refusal(6);
+    /// The result buffer is shorter than the result.
+    pub const SHORT_BUFFER: Refusal = Refusal(7);
+    /// A count of hours or a given coefficient.
+    pub const BAD_SHARE: Refusal = Refusal(8);
+    /// A capacity, power, volume or peak.
+    pub const HIGH_FIGURE: Refusal = Refusal(9);
+    /// A row's producer or consumer.
+    pub const BAD_REFERENCE: Refusal = Refusal(10);
+    /// A price.
+    pub const HIGH_PRICE: Refusal = Refusal(11);
+    /// Mining days or z.
+    pub const BAD_FACTOR: Refusal = Refusal(12);
+
+    /// The number of the rule, as docs/RULES.md counts them.
     pub const fn number(self) -> u8 {
         self.0
     }

@@ -1,6 +1,6 @@
 //! The stored sheets with the rival's answers, crates/vectors/data (compare/README.md has the format): one after the other,
 //! and by several threads at once.
-use capacity::settle;
+use capacity::{settle, Figures};
 use std::fs;
 use std::path::{Path, PathBuf};
 use std::sync::Barrier;
@@ -105,4 +105,46 @@ fn agree_in_several_threads_at_once() {
             scope.spawn(rounds);
         }
     });
+}
+
+/// A stored result, laid out again from the figures that are read of it.
+fn laid_again(sheet: &[u8], result: &[u8]) -> Vec<u8> {
+    let figures = Figures::of(sheet, result).expect("a result of this sheet");
+    assert_eq!((figures.rows().len(), figures.consumers().len()), (usize::from(sheet[12]), usize::from(sheet[13])));
+    let mut bytes = result[..5].to_vec();
+    for row in figures.rows() {
+        bytes.extend(row.after_cut.to_be_bytes());
+        bytes.extend(row.actual.to_be_bytes());
+        bytes.extend(row.payment.to_be_bytes());
+    }
+    for line in figures.consumers() {
+        bytes.extend(line.credit.to_be_bytes());
+        bytes.extend(line.percent.to_be_bytes());
+        bytes.push(line.band);
+        bytes.extend(line.volume.to_be_bytes());
+        bytes.extend(line.charge.to_be_bytes());
+    }
+    let totals = figures.totals();
+    assert_eq!(totals.paid, figures.rows().map(|row| row.payment).sum::<u64>());
+    assert_eq!(totals.charged, figures.consumers().map(|line| line.charge).sum::<u64>());
+    bytes.extend(totals.paid.to_be_bytes());
+    bytes.extend(totals.charged.to_be_bytes());
+    bytes
+}
+
+#[test]
+fn figures_are_read_where_they_stand() {
+    let mut results = 0;
+    for (kind, cases) in stored() {
+        for (at, case) in cases.iter().enumerate() {
+            let Ok(result) = &case.told else { continue };
+            assert_eq!(laid_again(&case.sheet, result), *result, "{kind}, case {at}");
+            let longer = [&result[..], &[0xA5; 7]].concat();
+            assert_eq!(laid_again(&case.sheet, &longer), *result, "{kind}, case {at}");
+            assert!(Figures::of(&case.sheet, &result[..result.len() - 1]).is_none());
+            assert!(Figures::of(&case.sheet[..13], result).is_none());
+            results += 1;
+        }
+    }
+    assert!(results > 0);
 }
