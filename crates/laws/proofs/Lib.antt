@@ -1,4 +1,5 @@
 pub mod Range
+pub mod Arrays
 pub mod Units
 pub mod Bands
 pub mod Cut

@@ -1,9 +1,8 @@
 -- What a producer's rows are settled by: what is left to cut of them, and k1 to k10.
-use Prim.Native.Nat.{ℕ, _-_, _<_, min}
-use mathlib.Core.Path.{_≡_}
+use Prim.Native.Nat.{ℕ, _-_, min}
 use mathlib.Core.Bool.{cond, _||_}
 use mathlib.Core.List.{List, []}
-use lib.ListN.{length, getD, replicate}
+use lib.ListN.{length, replicate}
 use lib.Dec.{ltb}
 use Rattle.rules.specs.declared.Header.{Header}
 use Rattle.rules.specs.Month.{Month}
@@ -12,6 +11,7 @@ use Rattle.rules.specs.Cut.{leftToCut}
 use Rattle.rules.specs.ControlHours.{average}
 use Rattle.rules.specs.Coefficients.{coefficients}
 use Rattle.control.specs.declared.Control.{Control}
+use Rattle.laws.proofs.Arrays.{Agrees}
 use Rattle.figures.specs.Sums.{tenths}
 use Rattle.terms.specs.declared.Terms.{Terms}
 
@@ -35,11 +35,14 @@ zeroTerms = record { excess = tenths 0; ks = replicate 10 0 }
 unfoldable pub withTerms : Header → List ℕ → ℕ
 withTerms h s = cond (ltb 31 (h .days) || ltb (length s) (sheetLength h)) 0 (min (h .producers) 6)
 
--- Before the first row: the terms of producer p where there is one.
-unfoldable pub termsOf : Header → List ℕ → ℕ → Terms
-termsOf h s p = cond (ltb p (withTerms h s)) (termsAt (monthUnder h s) p 0) zeroTerms
+-- The first n producers when row j's turn comes; past them there are none.
+unfoldable pub termsBelow : Month → ℕ → ℕ → ℕ → Terms
+termsBelow m j n p = cond (ltb p n) (termsAt m p j) zeroTerms
 
--- The first n producers when row j's turn comes, in an array of six.
-pub record Known (m : Month) (j n : ℕ) (terms : List Terms) : Type 0 where
-  pub six : length terms ≡ 6
-  pub each : (p : ℕ) → p < n → getD terms p noTerms ≡ termsAt m p j
+-- In an array of six.
+abbrev pub Known : Month → ℕ → ℕ → List Terms → Type 0
+Known m j n terms = Agrees 6 noTerms (termsBelow m j n) terms
+
+-- Before the first row.
+abbrev pub termsOf : Header → List ℕ → ℕ → Terms
+termsOf h s = termsBelow (monthUnder h s) 0 (withTerms h s)

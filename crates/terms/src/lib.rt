@@ -1,13 +1,14 @@
 // What a producer's rows are settled by: its excess and its coefficients, from any bytes under any header.
 ghost use mathlib.Core.Path.{_≡_};
-ghost use Prim.Native.Nat.{ℕ, _+_, _-_, _*_, _<_, _≤_};
-ghost use lib.ListN.{length, getD};
+ghost use Prim.Native.Nat.{_+_, _-_, _*_, _<_, _≤_};
+ghost use lib.ListN.{length};
 ghost use Rattle.rules.specs.Month.{hours};
 ghost use Rattle.rules.specs.Sheet.{sheetLength, producerAt, hourAt, hoursWidth, monthUnder};
 ghost use Rattle.rules.specs.Bands.{bandOf, thousandths};
 ghost use Rattle.rules.specs.Cut.{summedCapacity};
 ghost use Rattle.rules.specs.Coefficients.{share, lessPenalty, coefficients};
-ghost use Rattle.volumes.specs.Volumes.{mostVolume, volumesOf};
+ghost use Rattle.laws.proofs.Arrays.{Agrees};
+ghost use Rattle.volumes.specs.Volumes.{Fits, mostVolume, volumesOf};
 ghost use Rattle.hours.specs.Sums.{k4Of};
 ghost use Rattle.control.specs.Control.{controlOf};
 ghost use Rattle.terms.specs.Terms.{overOf, termsAt, termsOf, noTerms, withTerms};
@@ -106,7 +107,7 @@ fn ks_of(s: &[u8], h: Header, p: u8, at: usize, v: Volumes, sums: K4, control: C
 
 // S: T + B + deductible.
 fn summed_of(v: Volumes, deductible: u32) -> Tenths
-    requires { ⌜ (v .support .0 ≤ mostVolume) × (v .bilateral .0 ≤ mostVolume) ⌝ }
+    requires { ⌜ Fits v ⌝ }
     ensures { λ r. ⌜ r .0 ≡ v .support .0 + v .bilateral .0 + deductible ⌝ }
 {
     let support = v.support;
@@ -126,7 +127,7 @@ fn excess_of(summed: Tenths, own: u32, attested: u32) -> Tenths
 // Producer p's excess and coefficients, before the first row.
 fn terms_of(s: &[u8], h: Header, p: u8, v: Volumes) -> Terms
     requires { ⌜ (h .days ≤ 31) × (hourAt h p 0 + hoursWidth h ≤ length (now s)) ⌝ }
-    requires { ⌜ (v ≡ volumesOf (monthUnder h (now s)) p) × (v .support .0 ≤ mostVolume) × (v .bilateral .0 ≤ mostVolume) ⌝ }
+    requires { ⌜ (v ≡ volumesOf (monthUnder h (now s)) p) × Fits v ⌝ }
     ensures { λ r. ⌜ r ≡ termsAt (monthUnder h (now (s .entry))) p 0 ⌝ }
 {
     let at = producer_at(h, p);
@@ -154,7 +155,7 @@ fn with_terms(s: &[u8], h: Header) -> u8
 
 // The excess and the coefficients of six producers, before the first row.
 pub fn all_terms(s: &[u8], h: Header) -> AllTerms
-    ensures { λ r. ⌜ (length (r .of) ≡ 6) × ((p : ℕ) → p < 6 → getD (r .of) p noTerms ≡ termsOf h (now (s .entry)) p) ⌝ }
+    ensures { λ r. ⌜ Agrees 6 noTerms (termsOf h (now (s .entry))) (r .of) ⌝ }
 {
     let none = Terms {
         excess: Tenths(0),

@@ -1,5 +1,5 @@
 -- The volumes of a producer's rows, as the struct that carries them.
-use Prim.Native.Nat.{ℕ, _+_}
+use Prim.Native.Nat.{ℕ, _+_, _≤_}
 use mathlib.Core.Bool.{not}
 use lib.Dec.{eqb}
 use Rattle.rules.specs.declared.Row.{Row}
@@ -12,6 +12,10 @@ use Rattle.volumes.specs.declared.Volumes.{Volumes}
 -- What a producer's rows of one kind come to at most, whatever the bytes: 255 rows of the largest volume that four bytes hold.
 abbrev pub mostVolume : ℕ
 mostVolume = 1095216660225
+
+-- T and B are no more than that.
+abbrev pub Fits : Volumes → Type 0
+Fits v = (v .support .0 ≤ mostVolume) × (v .bilateral .0 ≤ mostVolume)
 
 -- T and B.
 abbrev pub volumesOf : Month → ℕ → Volumes

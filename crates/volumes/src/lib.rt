@@ -1,9 +1,10 @@
 // What the rows of a sheet add up to for each producer.
 ghost use mathlib.Core.Path.{_≡_};
-ghost use Prim.Native.Nat.{ℕ, _≤_, _<_};
-ghost use lib.ListN.{length, getD};
+ghost use Prim.Native.Nat.{ℕ, _<_};
+ghost use lib.ListN.{getD};
 ghost use Rattle.rules.specs.Sheet.{monthUnder};
-ghost use Rattle.volumes.specs.Volumes.{mostVolume, volumesOf, noVolumes, withRow};
+ghost use Rattle.laws.proofs.Arrays.{Agrees};
+ghost use Rattle.volumes.specs.Volumes.{Fits, volumesOf, noVolumes, withRow};
 use figures::Tenths;
 use rules::Header;
 use rules::Row;
@@ -22,7 +23,7 @@ pub struct AllVolumes {
 
 // A producer's volumes with one of its rows more.
 fn with_row(v: Volumes, r: Row) -> Volumes
-    requires { ⌜ (v .support .0 ≤ mostVolume) × (v .bilateral .0 ≤ mostVolume) ⌝ }
+    requires { ⌜ Fits v ⌝ }
     ensures { λ w. ⌜ w ≡ withRow v r ⌝ }
 {
     let volume = Tenths::stated(r.volume);
@@ -43,8 +44,8 @@ fn with_row(v: Volumes, r: Row) -> Volumes
 
 // T and B of six producers. A row of another producer counts for none.
 pub fn row_volumes(s: &[u8], h: Header) -> AllVolumes
-    ensures { λ r. ⌜ (length (r .of) ≡ 6) × ((p : ℕ) → p < 6 → getD (r .of) p noVolumes ≡ volumesOf (monthUnder h (now (s .entry))) p) ⌝ }
-    ensures fits { λ r. ⌜ ((p : ℕ) → p < 6 → (getD (r .of) p noVolumes .support .0 ≤ mostVolume) × (getD (r .of) p noVolumes .bilateral .0 ≤ mostVolume)) ⌝ }
+    ensures { λ r. ⌜ Agrees 6 noVolumes (volumesOf (monthUnder h (now (s .entry)))) (r .of) ⌝ }
+    ensures fits { λ r. ⌜ ((p : ℕ) → p < 6 → Fits (getD (r .of) p noVolumes)) ⌝ }
 {
     let none = Volumes {
         support: Tenths(0),

@@ -6,14 +6,14 @@ use native.Mathlib.Nat.{le-trans}
 use lib.ListN.{length}
 use Rattle.rules.specs.Sheet.{sheetLength, monthUnder}
 use Rattle.laws.proofs.Sheet.{hours-inside}
-use Rattle.terms.specs.Terms.{withTerms, termsOf}
-use Rattle.terms.proofs.Cuts.{VolumesKnown, Filled, filled-none, filled-more}
+use Rattle.terms.specs.Terms.{withTerms, Known}
+use Rattle.terms.proofs.Cuts.{VolumesKnown, known-none, known-more}
 use Rattle.terms.proofs.all_terms.Statement.{statement}
 use Rattle.terms.proofs.all_terms.Tie as tie
 
 abbrev Inv-loop : tie.InvT-loop
 Inv-loop s h of₀ volumes n p₀ of p =
-    Filled (monthUnder h s) p of
+    Known (monthUnder h s) 0 p of
     × (p ≤ n)
     × VolumesKnown (monthUnder h s) (volumes .of)
     × (n ≡ withTerms h s)
@@ -32,7 +32,7 @@ with-terms-requires c κs = search needs
 loop-holds : tie.Need-loop-holds Inv-loop μ-loop
 loop-holds c =
     let n = c .with-terms .ensures in
-    (filled-none _, zero-le, c .before .row-volumes .ensures, n .0, n .1, n .2)
+    (known-none _, zero-le, c .before .row-volumes .ensures, n .0, n .1, n .2)
 
 cast-i : tie.Need-cast-i Inv-loop μ-loop
 cast-i c = search needs
@@ -50,7 +50,7 @@ terms-of-requires c κs =
     let p : c .before .before .loop .p < 6 = omega arith in
     let h = c .before .before .before .before .before .before .args .h in (
       (some .0, le-trans (hours-inside h (c .before .before .loop .p) (omega (arith, some .1))) (some .2)),
-      (inv .2 .0 .1 _ p, inv .2 .1 _ p .0, inv .2 .1 _ p .1),
+      (inv .2 .0 .each _ p, inv .2 .1 _ p),
     )
 
 mul-of : tie.Need-mul-of Inv-loop μ-loop
@@ -68,15 +68,13 @@ loop-less c = omega arith
 loop-again : tie.Need-loop-again Inv-loop μ-loop
 loop-again c =
     let inv = c .before .before .before .loop .inv in
-    (filled-more _ _ _ _ (inv .0) (omega arith) (c .terms-of .ensures), omega arith, inv .2, inv .3, inv .4, inv .5)
+    (known-more _ _ _ _ (inv .0) (omega arith) (c .terms-of .ensures), omega arith, inv .2, inv .3, inv .4, inv .5)
 
 returns : tie.Need-returns Inv-loop μ-loop
-unfolding termsOf
 returns c =
     let inv = c .before .loop .inv in
     let end : c .before .loop .p ≡ withTerms (c .before .before .before .before .before .args .h) (c .before .before .before .before .before .args .s .now) = omega arith in
-    let all = rw end at (inv .0) in
-    (all .six, all .each)
+    rw end at (inv .0)
 
 pub all-terms-spec : {M : Type 1} → statement M
 all-terms-spec =

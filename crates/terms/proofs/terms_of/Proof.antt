@@ -64,7 +64,7 @@ ks-of-requires c κs =
     let control = c .control-hours .ensures in (
       (a .pre .0 .0, at .0, at .1),
       (
-        (v .0, v .1),
+        (v .0, v .1 .0),
         (
           (
             sums .0 ∙ k4-inside (a .args .h) (a .args .s .now) (a .args .p) _ (a .pre .0 .1) ∙ ap (k4Of (a .args .h) (m .producer (a .args .p))) (summed u),

@@ -63,7 +63,7 @@ returns c =
     let a = c .before .before .before .before in
     let end : l .j ≡ a .args .h .rows = omega arith in
     let all = rw end at (l .inv .0) in
-    ((all .six, all .each), counted-fits all (omega arith))
+    (all .agrees, counted-fits all (omega arith))
 
 pub row-volumes-spec : {M : Type 1} → statement M
 row-volumes-spec =
