@@ -1,6 +1,6 @@
 // The band table, and the thousandths that it is read by.
 ghost use mathlib.Core.Path.{_≡_};
-ghost use Rattle.rules.specs.Bands.{thousandths, bandOf};
+ghost use Rattle.rules.specs.Bands.{thousandths, factorOf, bandOf};
 use figures::nearest;
 use rules::Band;
 
@@ -41,17 +41,24 @@ pub const BANDS: [Band; 5] = [
     },
 ];
 
-// The factor of p thousandths: that of the first row whose edge p does not pass, past all others the last row's.
-pub fn factor(p: u64) -> u8
-    ensures { λ r. ⌜ r ≡ bandOf p ⌝ }
+// The factor that a table gives p: that of the first row whose edge p does not pass, past all others the last row's.
+pub fn factor_of(table: [Band; 5], p: u64) -> u8
+    ensures { λ r. ⌜ r ≡ factorOf table p ⌝ }
 {
     let mut i: usize = 0;
     while i < 4 {
-        let row = BANDS[i];
+        let row = table[i];
         if p <= row.edge as u64 {
             return row.factor;
         }
         i += 1;
     }
-    BANDS[4].factor
+    table[4].factor
+}
+
+// The factor of p thousandths in the band table.
+pub fn factor(p: u64) -> u8
+    ensures { λ r. ⌜ r ≡ bandOf p ⌝ }
+{
+    factor_of(BANDS, p)
 }
