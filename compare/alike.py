@@ -41,6 +41,8 @@ ALIKE = [
      ["Consumers.credited: bilateral m j && eqb (m .row j .consumer) c → eqb (m .row j .consumer) c"]),
     ("a byte past the end is read only of a sheet that number 1 or 6 refuses, whatever that byte is",
      ["Fields.bigEndian: getD s (at + w) 0 → getD s (at + w) 1"]),
+    ("there is one version, and so one layout: no width or place asks for the version",
+     ["Sheet.layoutOf: version s → lengthField s"]),
     ("a number that is at most 0 is 0",
      ["Outcome.outcome: eqb (refusal s room) 0 → leb (refusal s room) 0",
       "Outcome.bufferAfter: eqb (refusal s (length out)) 0 → leb (refusal s (length out)) 0",

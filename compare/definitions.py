@@ -207,10 +207,11 @@ def read_all(texts):
 
 
 def all_records(modules):
-    """The fields of every record, with their types: of the modules, and of src/lib.rt, where they are numbers."""
+    """The fields of every record, with their types: of the modules, and of src/lib.rt, where most are numbers."""
     found = {name: fields for module in modules.values() for name, fields in module.records.items()}
     for name, fields in re.findall(r"pub struct (\w+) \{(.*?)\n\}", file_text("src/lib.rt"), re.S):
-        found[name] = {field: Name("ℕ") for field in re.findall(r"pub (\w+): u\d+,", fields)}
+        found[name] = {field: Name("ℕ" if re.fullmatch(r"u\d+|usize", type_) else type_)
+                       for field, type_ in re.findall(r"pub (\w+): (\w+),", fields)}
     return found
 
 

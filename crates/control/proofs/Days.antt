@@ -7,6 +7,7 @@ use native.Mathlib.Nat.{add-zero}
 use native.Mathlib.Omega.{arith}
 use lib.ListN.{take, drop}
 use Rattle.rules.specs.declared.Header.{Header}
+use Rattle.rules.specs.declared.Layout.{Layout}
 use Rattle.rules.specs.Fields.{bigEndian}
 use Rattle.rules.specs.Range.{sum, when}
 use Rattle.rules.specs.Sheet.{hourAt, hourOf, monthUnder}
@@ -60,9 +61,9 @@ pub outside-read : (s : List ℕ) (at n t : ℕ) → 12 * t + 12 ≤ n → bigEn
 outside-read s at n t l = read-part 4 n at (12 * t + 8) s (omega arith) ∙ ap (bigEndian 4 s) (omega arith)
 
 -- From the place of a day's hour 17 on they are the day's evening.
-pub evening-there : (s : List ℕ) (h : Header) (p day : ℕ) {start at : ℕ} → start ≡ hourAt h p 0 → at ≡ start + 204 + 288 * day
-    → sum (λ t. hourOf s (at + 12 * t) .outside) 6 ≡ evening (monthUnder h s .producer p .outsideUse) day
-evening-there s h p day {start} {at} e q =
+pub evening-there : (s : List ℕ) (layout : Layout) (p day : ℕ) {start at : ℕ} → start ≡ hourAt layout p 0 → at ≡ start + 204 + 288 * day
+    → sum (λ t. hourOf s (at + 12 * t) .outside) 6 ≡ evening (monthUnder layout s .producer p .outsideUse) day
+evening-there s layout p day {start} {at} e q =
     sum-same _ _ {n = 6} refl
-    (λ t l. let same : at + 12 * t ≡ hourAt h p (24 * day + (17 + t)) = omega (arith, hour-there h p (24 * day + (17 + t)) e) in
+    (λ t l. let same : at + 12 * t ≡ hourAt layout p (24 * day + (17 + t)) = omega (arith, hour-there layout p (24 * day + (17 + t)) e) in
     ap (λ (x : ℕ). hourOf s x .outside) same)

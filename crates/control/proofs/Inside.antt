@@ -4,11 +4,11 @@ use mathlib.Core.List.{List}
 use Prim.Native.Nat.{ℕ, _+_, _≤_}
 use lib.ListN.{length}
 use borrow.Author.Tests.{le-ltb}
-use Rattle.rules.specs.declared.Header.{Header}
+use Rattle.rules.specs.declared.Layout.{Layout}
 use Rattle.rules.specs.Sheet.{hourAt, hoursWidth, monthUnder}
 use Rattle.control.specs.Control.{controlOf, controlIn}
 
-pub control-inside : (h : Header) (s : List ℕ) (p : ℕ) → hourAt h p 0 + hoursWidth h ≤ length s
-    → controlIn h s p ≡ controlOf h (monthUnder h s .producer p .outsideUse)
+pub control-inside : (layout : Layout) (s : List ℕ) (p : ℕ) → hourAt layout p 0 + hoursWidth (layout .header) ≤ length s
+    → controlIn layout s p ≡ controlOf (layout .header) (monthUnder layout s .producer p .outsideUse)
 unfolding controlIn
-control-inside h s p l = rw (le-ltb (length s) (hourAt h p 0 + hoursWidth h) l)
+control-inside layout s p l = rw (le-ltb (length s) (hourAt layout p 0 + hoursWidth (layout .header)) l)

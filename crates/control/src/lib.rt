@@ -9,7 +9,7 @@ use calendar::control_day;
 use fields::word;
 use figures::Tenths;
 use places::hours_at;
-use rules::Header;
+use rules::Layout;
 
 // The outside use of a producer's control hours in all, and how many hours these are.
 pub struct Control {
@@ -34,16 +34,16 @@ fn six_hours(s: &[u8], at: usize) -> Tenths
 }
 
 // Day by day: six hours of each control day.
-fn by_day(s: &[u8], h: Header, p: u8) -> Control
-    requires { ⌜ hourAt h p 0 + hoursWidth h ≤ length (now s) ⌝ }
-    ensures { λ r. ⌜ (r ≡ controlOf h (monthUnder h (now (s .entry)) .producer p .outsideUse)) × (r .counted .0 ≤ 4294967295 * r .count) ⌝ }
+fn by_day(s: &[u8], layout: Layout, p: u8) -> Control
+    requires { ⌜ hourAt layout p 0 + hoursWidth (layout .header) ≤ length (now s) ⌝ }
+    ensures { λ r. ⌜ (r ≡ controlOf (layout .header) (monthUnder layout (now (s .entry)) .producer p .outsideUse)) × (r .counted .0 ≤ 4294967295 * r .count) ⌝ }
 {
-    let mut at = hours_at(h, p) + 204;
+    let mut at = hours_at(layout, p) + 204;
     let mut counted = Tenths(0);
     let mut count: u64 = 0;
     let mut day: u8 = 0;
-    while day < h.days {
-        if control_day(h, day) {
+    while day < layout.header.days {
+        if control_day(layout.header, day) {
             counted = counted.plus(six_hours(s, at));
             count = count + 6;
         }
@@ -54,15 +54,15 @@ fn by_day(s: &[u8], h: Header, p: u8) -> Control
 }
 
 // Of producer p. Where the sheet ends before the producer's hours do, nothing is counted.
-pub fn control_hours(s: &[u8], h: Header, p: u8) -> Control
-    ensures { λ r. ⌜ r ≡ controlIn h (now (s .entry)) p ⌝ }
+pub fn control_hours(s: &[u8], layout: Layout, p: u8) -> Control
+    ensures { λ r. ⌜ r ≡ controlIn layout (now (s .entry)) p ⌝ }
     ensures fits { λ r. ⌜ r .counted .0 ≤ 4294967295 * r .count ⌝ }
 {
-    if s.len() < hours_at(h, p) + 288 * (h.days as usize) {
+    if s.len() < hours_at(layout, p) + 288 * (layout.header.days as usize) {
         return Control {
             counted: Tenths(0),
             count: 0,
         };
     }
-    by_day(s, h, p)
+    by_day(s, layout, p)
 }

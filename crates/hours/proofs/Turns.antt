@@ -7,7 +7,7 @@ use native.Mathlib.Omega.{arith}
 use lib.ListN.{take, drop}
 use Rattle.rules.specs.Fields.{bigEndian}
 use Rattle.laws.proofs.Fields.{read-part}
-use Rattle.rules.specs.declared.Header.{Header}
+use Rattle.rules.specs.declared.Layout.{Layout}
 use Rattle.rules.specs.declared.Hour.{Hour}
 use Rattle.rules.specs.Month.{Producer}
 use Rattle.rules.specs.Sheet.{hourAt, hourOf, monthUnder}
@@ -26,12 +26,12 @@ hour-read s at e w p o =
     λ k l. read-part 4 (at + 12 - at) at k s (omega arith) in
     rw (w, p, o, e, part 0 (omega arith), part 4 (omega arith), part 8 (omega arith), add-zero)
 
-module _ (s : List ℕ) (h : Header) (p i : ℕ) {x : Hour} (is : x ≡ hourOf s (hourAt h p i)) where
-  pub asked-there : (S : ℕ) → min S (x .possible) ≡ asked (monthUnder h s .producer p) S i
+module _ (s : List ℕ) (layout : Layout) (p i : ℕ) {x : Hour} (is : x ≡ hourOf s (hourAt layout p i)) where
+  pub asked-there : (S : ℕ) → min S (x .possible) ≡ asked (monthUnder layout s .producer p) S i
   unfolding asked
   asked-there S = rw is
 
-  pub met-there : (S : ℕ) {m : ℕ} → m ≡ asked (monthUnder h s .producer p) S i → min m (x .working) ≡ met (monthUnder h s .producer p) S i
+  pub met-there : (S : ℕ) {m : ℕ} → m ≡ asked (monthUnder layout s .producer p) S i → min m (x .working) ≡ met (monthUnder layout s .producer p) S i
   unfolding met
   met-there S r = rw (r, is)
 

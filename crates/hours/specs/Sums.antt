@@ -6,6 +6,7 @@ use Prim.Native.Nat.{ℕ, _+_, _*_, _≤_}
 use lib.ListN.{length}
 use lib.Dec.{ltb}
 use Rattle.rules.specs.declared.Header.{Header}
+use Rattle.rules.specs.declared.Layout.{Layout}
 use Rattle.rules.specs.Range.{sum}
 use Rattle.rules.specs.Month.{Producer, hours}
 use Rattle.rules.specs.Sheet.{hourAt, hoursWidth, monthUnder}
@@ -26,6 +27,6 @@ abbrev pub k4Of : Header → Producer → ℕ → K4
 k4Of h p S = record { asked = tenths (sum (asked p S) (hours h)); met = tenths (sum (met p S) (hours h)) }
 
 -- Of producer p in a sheet; nothing where the sheet ends before the producer's hours do.
-unfoldable pub k4In : Header → List ℕ → ℕ → ℕ → K4
-k4In h s p S =
-    cond (ltb (length s) (hourAt h p 0 + hoursWidth h)) (record { asked = tenths 0; met = tenths 0 }) (k4Of h (monthUnder h s .producer p) S)
+unfoldable pub k4In : Layout → List ℕ → ℕ → ℕ → K4
+k4In layout s p S =
+    cond (ltb (length s) (hourAt layout p 0 + hoursWidth (layout .header))) (record { asked = tenths 0; met = tenths 0 }) (k4Of (layout .header) (monthUnder layout s .producer p) S)

@@ -3,18 +3,19 @@ use mathlib.Core.Path.{_≡_}
 use Prim.Native.Nat.{ℕ, _+_, _*_, _≤_, _<_}
 use native.Mathlib.Nat.{mul-le-mul, mul-le-mul-right}
 use native.Mathlib.Omega.{arith}
-use Rattle.rules.specs.declared.Header.{Header}
+use Rattle.rules.specs.declared.Layout.{Layout}
 use Rattle.rules.specs.Sheet.{hoursWidth, producerAt, hourAt, rowAt, consumerAt, sheetLength}
 
 -- Number 6's length, in document 01's words.
-pub sheet-length : (h : Header) → sheetLength h ≡ 14 + h .producers * (42 + 288 * h .days) + 10 * h .rows + 15 * h .consumers
+pub sheet-length : (l : Layout)
+    → sheetLength l ≡ 14 + l .header .producers * (42 + 288 * l .header .days) + 10 * l .header .rows + 15 * l .header .consumers
 unfolding sheetLength consumerAt rowAt producerAt
-sheet-length h = omega arith
+sheet-length l = omega arith
 
 -- The hours of a producer below P end within the sheet.
-pub hours-inside : (h : Header) (p : ℕ) → p < h .producers → hourAt h p 0 + hoursWidth h ≤ sheetLength h
+pub hours-inside : (l : Layout) (p : ℕ) → p < l .header .producers → hourAt l p 0 + hoursWidth (l .header) ≤ sheetLength l
 unfolding sheetLength consumerAt rowAt hourAt producerAt
-hours-inside h p l = omega (arith, mul-le-mul-right (42 + 288 * h .days) l)
+hours-inside l p b = omega (arith, mul-le-mul-right (42 + 288 * l .header .days) b)
 
 -- The bytes before a producer's place are not many, whatever a header's bytes say.
 pub producers-le : (p days : ℕ) → p ≤ 255 → days ≤ 255 → p * (42 + 288 * days) ≤ 18737910

@@ -2,10 +2,10 @@
 use mathlib.Core.Path.{_≡_}
 use Prim.Native.Nat.{ℕ, _+_, _*_}
 use native.Mathlib.Omega.{arith}
-use Rattle.rules.specs.declared.Header.{Header}
+use Rattle.rules.specs.declared.Layout.{Layout}
 use Rattle.rules.specs.Sheet.{hourAt}
 
 -- Hour i begins 12 bytes after the hour before it.
-pub hour-there : (h : Header) (p i : ℕ) {at : ℕ} → at ≡ hourAt h p 0 → hourAt h p i ≡ at + 12 * i
+pub hour-there : (l : Layout) (p i : ℕ) {at : ℕ} → at ≡ hourAt l p 0 → hourAt l p i ≡ at + 12 * i
 unfolding hourAt
-hour-there h p i e = omega (arith, e)
+hour-there l p i e = omega (arith, e)

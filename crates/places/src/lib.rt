@@ -1,43 +1,44 @@
-// Where the records of a sheet stand, and how long the sheet and its result are.
+// Where the records of a sheet stand, and how long the sheet and its result are. No other crate knows how wide a record of the sheet is.
 ghost use mathlib.Core.Path.{_≡_};
 ghost use Prim.Native.Nat.{_≤_};
 ghost use Rattle.rules.specs.Sheet.{producerAt, hourAt, rowAt, consumerAt, sheetLength};
 ghost use Rattle.rules.specs.Result.{resultLength};
 use rules::Header;
+use rules::Layout;
 
 // Where producer p begins.
-pub fn producer_at(h: Header, p: u8) -> usize
-    ensures { λ r. ⌜ (r ≡ producerAt h p) × (r ≤ 20000000) ⌝ }
+pub fn producer_at(layout: Layout, p: u8) -> usize
+    ensures { λ r. ⌜ (r ≡ producerAt layout p) × (r ≤ 20000000) ⌝ }
 {
-    14 + (p as usize) * (42 + 288 * (h.days as usize))
+    14 + (p as usize) * (42 + 288 * (layout.header.days as usize))
 }
 
 // Where producer p's hours begin.
-pub fn hours_at(h: Header, p: u8) -> usize
-    ensures { λ r. ⌜ (r ≡ hourAt h p 0) × (r ≤ 20000042) ⌝ }
+pub fn hours_at(layout: Layout, p: u8) -> usize
+    ensures { λ r. ⌜ (r ≡ hourAt layout p 0) × (r ≤ 20000042) ⌝ }
 {
-    producer_at(h, p) + 42
+    producer_at(layout, p) + 42
 }
 
 // Where row j begins.
-pub fn row_at(h: Header, j: u8) -> usize
-    ensures { λ r. ⌜ (r ≡ rowAt h j) × (r ≤ 20002550) ⌝ }
+pub fn row_at(layout: Layout, j: u8) -> usize
+    ensures { λ r. ⌜ (r ≡ rowAt layout j) × (r ≤ 20002550) ⌝ }
 {
-    producer_at(h, h.producers) + 10 * (j as usize)
+    producer_at(layout, layout.header.producers) + 10 * (j as usize)
 }
 
 // Where consumer c begins.
-pub fn consumer_at(h: Header, c: u8) -> usize
-    ensures { λ r. ⌜ (r ≡ consumerAt h c) × (r ≤ 20006375) ⌝ }
+pub fn consumer_at(layout: Layout, c: u8) -> usize
+    ensures { λ r. ⌜ (r ≡ consumerAt layout c) × (r ≤ 20006375) ⌝ }
 {
-    row_at(h, h.rows) + 15 * (c as usize)
+    row_at(layout, layout.header.rows) + 15 * (c as usize)
 }
 
-// The length that the header asks of the sheet.
-pub fn sheet_length(h: Header) -> usize
-    ensures { λ r. ⌜ r ≡ sheetLength h ⌝ }
+// The length that version, month and counts ask of the sheet.
+pub fn sheet_length(layout: Layout) -> usize
+    ensures { λ r. ⌜ r ≡ sheetLength layout ⌝ }
 {
-    consumer_at(h, h.consumers)
+    consumer_at(layout, layout.header.consumers)
 }
 
 // The length of the result.

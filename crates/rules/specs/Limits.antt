@@ -5,7 +5,7 @@ use mathlib.Core.List.{List}
 use lib.ListN.{length}
 use Rattle.rules.specs.Units.{tenthsCeiling, tiynCeiling, one}
 use Rattle.rules.specs.Month.{Header, Producer, Row, Consumer, Month, hours}
-use Rattle.rules.specs.Sheet.{headerWidth, lengthField, version, headerOf, sheetLength, monthOf}
+use Rattle.rules.specs.Sheet.{headerWidth, lengthField, version, headerOf, layoutOf, sheetLength, monthOf}
 use Rattle.rules.specs.Result.{resultLength}
 
 -- Numbers 4 and 5. No holiday stands past the month's end: the bits are below 2^days.
@@ -67,7 +67,7 @@ pub record FormLimits (s : List ℕ) : Type 0 where
   pub length-told : lengthField s ≡ length s
   pub version-1 : version s ≡ 1
   pub header : HeaderLimits (headerOf s)
-  pub length-right : lengthField s ≡ sheetLength (headerOf s)
+  pub length-right : lengthField s ≡ sheetLength (layoutOf s)
 
 -- All numbers, of a sheet and a result buffer of so many bytes; number 7 is enough-room.
 pub record SheetLimits (s : List ℕ) (room : ℕ) : Type 0 where

@@ -4,7 +4,7 @@ use mathlib.Core.List.{List, [], _∷_, _++_}
 use lib.ListN.{replicate}
 use Rattle.rules.specs.Month.{Month}
 use Rattle.rules.specs.Fields.{widthOf}
-use Rattle.rules.specs.Sheet.{monthOf, lengthField, sheetLength}
+use Rattle.rules.specs.Sheet.{layoutOf, monthOf, lengthField, sheetLength}
 use Rattle.rules.specs.Result.{consumerFigures, consumerFields, resultOf, rowRecordAt, consumerRecordAt, totalsAt, readRow, readConsumer, readTotals}
 use Rattle.rules.specs.Outcome.{hoursStretch, within}
 use Rattle.rules.specs.Samples.{producer, row, consumer, month, every, Figure, figure, wrong}
@@ -35,7 +35,7 @@ unfoldable pub readings : List Figure
 readings =
     let m = monthOf laidSheet in
     figure (lengthField laidSheet) 724
-    ∷ figure (sheetLength (m .header)) 724
+    ∷ figure (sheetLength (layoutOf laidSheet)) 724
     ∷ figure (m .header .days) 1
     ∷ figure (m .header .weekday) 5
     ∷ figure (m .header .holidays) 65538

@@ -8,7 +8,7 @@ use lib.Dec.{leb, ltb, eqb}
 use Rattle.rules.specs.Range.{any}
 use Rattle.rules.specs.Units.{tenthsCeiling, tiynCeiling, one}
 use Rattle.rules.specs.Month.{Header, Producer, Row, Consumer, Month, hours}
-use Rattle.rules.specs.Sheet.{headerWidth, lengthField, version, headerOf, sheetLength, monthOf}
+use Rattle.rules.specs.Sheet.{Layout, headerWidth, lengthField, version, headerOf, layoutOf, sheetLength, monthOf}
 use Rattle.rules.specs.Result.{resultLength}
 
 -- One of a list of tests holds.
@@ -123,13 +123,14 @@ frontTests s =
     ∷ test 3 (not (eqb (version s) 1))
     ∷ []
 
--- 4 to 6, of a header and the length of its sheet: the month; the counts; a length other than month and counts ask for.
-unfoldable pub headerTests : Header → ℕ → List Test
-headerTests h bytes = test 4 (badMonth h) ∷ test 5 (tooMany h) ∷ test 6 (not (eqb bytes (sheetLength h))) ∷ []
+-- 4 to 6, of a layout and the length of its sheet: the month; the counts; a length other than these ask for.
+unfoldable pub headerTests : Layout → ℕ → List Test
+headerTests l bytes =
+    test 4 (badMonth (l .header)) ∷ test 5 (tooMany (l .header)) ∷ test 6 (not (eqb bytes (sheetLength l))) ∷ []
 
 -- 1 to 6: the form.
 unfoldable pub formTests : List ℕ → List Test
-formTests s = frontTests s ++ headerTests (headerOf s) (lengthField s)
+formTests s = frontTests s ++ headerTests (layoutOf s) (lengthField s)
 
 -- 7, the room: the result does not fit into the result buffer.
 unfoldable pub roomTests : Header → ℕ → List Test

@@ -3,6 +3,8 @@ use Prim.Native.Nat.{ℕ, _+_, _*_}
 use mathlib.Core.List.{List}
 use Rattle.rules.specs.Month.{Header, Hour, Producer, Row, Consumer, Month}
 use Rattle.rules.specs.Fields.{bigEndian}
+-- The version and the header: the struct Layout of src/lib.rt. Widths and places go by it, and nothing else does.
+pub use Rattle.rules.specs.declared.Layout.{Layout}
 
 -- The header's width.
 abbrev pub headerWidth : ℕ
@@ -28,42 +30,46 @@ headerOf s =
       consumers = bigEndian 1 s 13;
     }
 
+-- The layout: the version with the header.
+abbrev pub layoutOf : List ℕ → Layout
+layoutOf s = record { version = version s; header = headerOf s }
+
 -- The width of a producer's hours: three powers of 4 bytes in each of 24 × days hours.
 abbrev pub hoursWidth : Header → ℕ
 hoursWidth h = 288 * h .days
 
 -- The width of a producer with its hours.
-abbrev pub producerWidth : Header → ℕ
-producerWidth h = 42 + hoursWidth h
+abbrev pub producerWidth : Layout → ℕ
+producerWidth l = 42 + hoursWidth (l .header)
 
 -- The width of a row.
-abbrev pub rowWidth : ℕ
-rowWidth = 10
+abbrev pub rowWidth : Layout → ℕ
+rowWidth l = 10
 
 -- The width of a consumer.
-abbrev pub consumerWidth : ℕ
-consumerWidth = 15
+abbrev pub consumerWidth : Layout → ℕ
+consumerWidth l = 15
 
 -- Where producer p begins: producers follow the header.
-unfoldable pub producerAt : Header → ℕ → ℕ
-producerAt h p = headerWidth + p * producerWidth h
+unfoldable pub producerAt : Layout → ℕ → ℕ
+producerAt l p = headerWidth + p * producerWidth l
 
 -- Where an hour of producer p begins: hours follow its other figures, hour 0 of day 1 first.
-unfoldable pub hourAt : Header → ℕ → ℕ → ℕ
-hourAt h p hour = producerAt h p + 42 + 12 * hour
+unfoldable pub hourAt : Layout → ℕ → ℕ → ℕ
+hourAt l p hour = producerAt l p + 42 + 12 * hour
 
 -- Where row j begins: rows follow the producers.
-unfoldable pub rowAt : Header → ℕ → ℕ
-rowAt h j = producerAt h (h .producers) + rowWidth * j
+unfoldable pub rowAt : Layout → ℕ → ℕ
+rowAt l j = producerAt l (l .header .producers) + rowWidth l * j
 
 -- Where consumer c begins: consumers follow the rows.
-unfoldable pub consumerAt : Header → ℕ → ℕ
-consumerAt h c = rowAt h (h .rows) + consumerWidth * c
+unfoldable pub consumerAt : Layout → ℕ → ℕ
+consumerAt l c = rowAt l (l .header .rows) + consumerWidth l * c
 
--- The length that the header's month and counts ask for: the place past the last consumer.
+-- The length that version, month and counts ask for: the place past the last consumer.
 -- (sheet-length, in laws/Sheet: 14 + P × (42 + 288 × days) + 10 × R + 15 × C.)
-unfoldable pub sheetLength : Header → ℕ
-sheetLength h = consumerAt h (h .consumers)
+unfoldable pub sheetLength : Layout → ℕ
+sheetLength l = consumerAt l (l .header .consumers)
 
 -- The hour whose powers begin at a place.
 abbrev pub hourOf : List ℕ → ℕ → Hour
@@ -107,16 +113,16 @@ consumerOf s at =
       price = bigEndian 4 s (at + 11);
     }
 
--- The month with a header whose producers, rows and consumers stand in s where that header puts them.
-abbrev pub monthUnder : Header → List ℕ → Month
-monthUnder h s =
+-- The month with a layout's header, whose producers, rows and consumers stand in s where that layout puts them.
+abbrev pub monthUnder : Layout → List ℕ → Month
+monthUnder l s =
     record {
-      header = h;
-      producer = λ p. producerOf s (producerAt h p) (hourAt h p);
-      row = λ j. rowOf s (rowAt h j);
-      consumer = λ c. consumerOf s (consumerAt h c);
+      header = l .header;
+      producer = λ p. producerOf s (producerAt l p) (hourAt l p);
+      row = λ j. rowOf s (rowAt l j);
+      consumer = λ c. consumerOf s (consumerAt l c);
     }
 
 -- The month that a sheet states.
 abbrev pub monthOf : List ℕ → Month
-monthOf s = monthUnder (headerOf s) s
+monthOf s = monthUnder (layoutOf s) s

@@ -12,6 +12,12 @@ pub struct Header {
     pub consumers: u8,
 }
 
+// A sheet's version and its header: together they say where its records stand.
+pub struct Layout {
+    pub version: u8,
+    pub header: Header,
+}
+
 // An hour of a producer: working, possible and outside-use power, in tenths of a megawatt.
 pub struct Hour {
     pub working: u32,

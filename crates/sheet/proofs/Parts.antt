@@ -5,11 +5,11 @@ use Prim.Native.Nat.{ℕ, _≤_}
 use native.Mathlib.Nat.{add-zero}
 use native.Mathlib.Omega.{arith}
 use lib.ListN.{take, drop}
-use Rattle.rules.specs.Sheet.{rowWidth, consumerWidth, rowOf, consumerOf}
+use Rattle.rules.specs.Sheet.{rowOf, consumerOf}
 use Rattle.laws.proofs.Fields.{read-part}
 
 module _ (s : List ℕ) (at n : ℕ) where
-  pub row-in-part : rowWidth ≤ n → rowOf (take n (drop at s)) 0 ≡ rowOf s at
+  pub row-in-part : 10 ≤ n → rowOf (take n (drop at s)) 0 ≡ rowOf s at
   row-in-part wide =
       rw (
         read-part 1 n at 0 s (omega arith),
@@ -19,7 +19,7 @@ module _ (s : List ℕ) (at n : ℕ) where
         add-zero,
       )
 
-  pub consumer-in-part : consumerWidth ≤ n → consumerOf (take n (drop at s)) 0 ≡ consumerOf s at
+  pub consumer-in-part : 15 ≤ n → consumerOf (take n (drop at s)) 0 ≡ consumerOf s at
   consumer-in-part wide =
       rw (
         read-part 4 n at 0 s (omega arith),

@@ -1,13 +1,14 @@
-// What a sheet says in its header, its rows and its consumers.
+// What a sheet says in its version, its header, its rows and its consumers.
 ghost use mathlib.Core.Path.{_≡_};
 ghost use Prim.Native.Nat.{_≤_};
-ghost use Rattle.rules.specs.Sheet.{headerOf, rowAt, consumerAt, rowOf, consumerOf};
+ghost use Rattle.rules.specs.Sheet.{headerOf, layoutOf, rowAt, consumerAt, rowOf, consumerOf};
 use fields::byte;
 use fields::word;
 use places::consumer_at;
 use places::row_at;
 use rules::Consumer;
 use rules::Header;
+use rules::Layout;
 use rules::Row;
 
 // The header's month and counts.
@@ -21,6 +22,17 @@ pub fn header(s: &[u8]) -> Header
         producers: byte(s, 11),
         rows: byte(s, 12),
         consumers: byte(s, 13),
+    }
+}
+
+// The version and the header.
+pub fn layout(s: &[u8]) -> Layout
+    ensures { λ r. ⌜ r ≡ layoutOf (now (s .entry)) ⌝ }
+{
+    let h = header(s);
+    Layout {
+        version: byte(s, 4),
+        header: h,
     }
 }
 
@@ -38,10 +50,10 @@ fn row_near_end(s: &[u8], at: usize) -> Row
 }
 
 // Row j. One part of the sheet is lent for its four figures, so that each of them is one load.
-pub fn row(s: &[u8], h: Header, j: u8) -> Row
-    ensures { λ r. ⌜ r ≡ rowOf (now (s .entry)) (rowAt h j) ⌝ }
+pub fn row(s: &[u8], layout: Layout, j: u8) -> Row
+    ensures { λ r. ⌜ r ≡ rowOf (now (s .entry)) (rowAt layout j) ⌝ }
 {
-    let at = row_at(h, j);
+    let at = row_at(layout, j);
     let row_end = at + 10;
     if s.len() < row_end {
         return row_near_end(s, at);
@@ -71,10 +83,10 @@ fn consumer_near_end(s: &[u8], at: usize) -> Consumer
 }
 
 // Consumer c. One part of the sheet is lent for its six figures, so that each of them is one load.
-pub fn consumer(s: &[u8], h: Header, c: u8) -> Consumer
-    ensures { λ r. ⌜ r ≡ consumerOf (now (s .entry)) (consumerAt h c) ⌝ }
+pub fn consumer(s: &[u8], layout: Layout, c: u8) -> Consumer
+    ensures { λ r. ⌜ r ≡ consumerOf (now (s .entry)) (consumerAt layout c) ⌝ }
 {
-    let at = consumer_at(h, c);
+    let at = consumer_at(layout, c);
     let consumer_end = at + 15;
     if s.len() < consumer_end {
         return consumer_near_end(s, at);

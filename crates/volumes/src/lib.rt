@@ -6,7 +6,7 @@ ghost use Rattle.rules.specs.Sheet.{monthUnder};
 ghost use Rattle.laws.proofs.Arrays.{Agrees};
 ghost use Rattle.volumes.specs.Volumes.{Fits, volumesOf, noVolumes, withRow};
 use figures::Tenths;
-use rules::Header;
+use rules::Layout;
 use rules::Row;
 use sheet::row;
 
@@ -43,8 +43,8 @@ fn with_row(v: Volumes, r: Row) -> Volumes
 }
 
 // T and B of six producers. A row of another producer counts for none.
-pub fn row_volumes(s: &[u8], h: Header) -> AllVolumes
-    ensures { λ r. ⌜ Agrees 6 noVolumes (volumesOf (monthUnder h (now (s .entry)))) (r .of) ⌝ }
+pub fn row_volumes(s: &[u8], layout: Layout) -> AllVolumes
+    ensures { λ r. ⌜ Agrees 6 noVolumes (volumesOf (monthUnder layout (now (s .entry)))) (r .of) ⌝ }
     ensures fits { λ r. ⌜ ((p : ℕ) → p < 6 → Fits (getD (r .of) p noVolumes)) ⌝ }
 {
     let none = Volumes {
@@ -53,8 +53,8 @@ pub fn row_volumes(s: &[u8], h: Header) -> AllVolumes
     };
     let mut of = [none; 6];
     let mut j: u8 = 0;
-    while j < h.rows {
-        let r = row(s, h, j);
+    while j < layout.header.rows {
+        let r = row(s, layout, j);
         if r.producer < 6 {
             let p = r.producer as usize;
             let v = of[p];

@@ -11,11 +11,11 @@ use Rattle.control.proofs.by_day.Statement.{statement}
 use Rattle.control.proofs.by_day.Tie as tie
 
 abbrev Inv-loop : tie.InvT-loop
-Inv-loop s h p at₀ counted₀ count₀ day₀ at counted count day =
-    SoFar h (monthUnder h s .producer p .outsideUse) day (counted .0) count × (at ≡ at₀ + 288 * day) × (day ≤ h .days)
+Inv-loop s layout p at₀ counted₀ count₀ day₀ at counted count day =
+    SoFar (layout .header) (monthUnder layout s .producer p .outsideUse) day (counted .0) count × (at ≡ at₀ + 288 * day) × (day ≤ layout .header .days)
 
 abbrev μ-loop : tie.MeasureT-loop
-μ-loop s h p at₀ counted₀ count₀ day₀ at counted count day = h .days - day
+μ-loop s layout p at₀ counted₀ count₀ day₀ at counted count day = layout .header .days - day
 
 hours-at-requires : tie.Need-hours-at-requires Inv-loop μ-loop
 hours-at-requires c κs = search needs
@@ -65,7 +65,7 @@ returns : tie.Need-returns Inv-loop μ-loop
 returns c =
     let l = c .before .before .loop in
     let a = c .before .before .before .before .before in
-    let end : l .day ≡ a .args .h .days = omega arith in
+    let end : l .day ≡ a .args .layout .header .days = omega arith in
     (all-days _ _ (rw end at (l .inv .0)), l .inv .0 .fits)
 
 pub by-day-spec : {M : Type 1} → statement M

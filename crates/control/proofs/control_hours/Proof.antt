@@ -26,7 +26,7 @@ returns : tie.Need-returns
 unfolding controlIn
 returns c =
     let a = c .before .before .before .before .args in
-    (rw (lt-ltb (length (a .s .now)) (hourAt (a .h) (a .p) 0 + hoursWidth (a .h)) (omega (arith, c .if1 .taken, c .before .before .hours-at .ensures .0))), zero-le)
+    (rw (lt-ltb (length (a .s .now)) (hourAt (a .layout) (a .p) 0 + hoursWidth (a .layout .header)) (omega (arith, c .if1 .taken, c .before .before .hours-at .ensures .0))), zero-le)
 
 by-day-requires : tie.Need-by-day-requires
 by-day-requires c κs = search needs
@@ -34,7 +34,7 @@ by-day-requires c κs = search needs
 returns-2 : tie.Need-returns-2
 returns-2 c =
     let a = c .before .before .before .before .before .args in
-    (c .by-day .ensures .0 ∙ sym (control-inside (a .h) (a .s .now) (a .p) (omega (arith, c .before .if1 .left, c .before .before .before .hours-at .ensures .0))), c .by-day .ensures .1)
+    (c .by-day .ensures .0 ∙ sym (control-inside (a .layout) (a .s .now) (a .p) (omega (arith, c .before .if1 .left, c .before .before .before .hours-at .ensures .0))), c .by-day .ensures .1)
 
 pub control-hours-spec : {M : Type 1} → statement M
 control-hours-spec =

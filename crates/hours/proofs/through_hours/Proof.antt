@@ -10,10 +10,10 @@ use Rattle.hours.proofs.through_hours.Statement.{statement}
 use Rattle.hours.proofs.through_hours.Tie as tie
 
 abbrev Inv-loop : tie.InvT-loop
-Inv-loop s h p summed k₀ q₀ k q = K4Before (monthUnder h s .producer p) (summed .0) (6 * q) k × (q ≤ 4 * h .days)
+Inv-loop s layout p summed k₀ q₀ k q = K4Before (monthUnder layout s .producer p) (summed .0) (6 * q) k × (q ≤ 4 * layout .header .days)
 
 abbrev μ-loop : tie.MeasureT-loop
-μ-loop s h p summed k₀ q₀ k q = 4 * h .days - q
+μ-loop s layout p summed k₀ q₀ k q = 4 * layout .header .days - q
 
 loop-holds : tie.Need-loop-holds Inv-loop μ-loop
 loop-holds c = ((sym (sum-none _), sym (sum-none _), zero-le, zero-le), zero-le)

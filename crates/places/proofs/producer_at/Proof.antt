@@ -15,14 +15,14 @@ add-result : tie.Need-add-result
 add-result c = search needs
 
 mul-result-2 : tie.Need-mul-result-2
-mul-result-2 c = omega (arith, producers-le (c .before .args .p) (c .before .args .h .days) (omega arith) (omega arith))
+mul-result-2 c = omega (arith, producers-le (c .before .args .p) (c .before .args .layout .header .days) (omega arith) (omega arith))
 
 add-result-2 : tie.Need-add-result-2
-add-result-2 c = omega (arith, producers-le (c .before .args .p) (c .before .args .h .days) (omega arith) (omega arith))
+add-result-2 c = omega (arith, producers-le (c .before .args .p) (c .before .args .layout .header .days) (omega arith) (omega arith))
 
 returns : tie.Need-returns
 unfolding producerAt
-returns c = (omega arith, omega (arith, producers-le (c .before .args .p) (c .before .args .h .days) (omega arith) (omega arith)))
+returns c = (omega arith, omega (arith, producers-le (c .before .args .p) (c .before .args .layout .header .days) (omega arith) (omega arith)))
 
 pub producer-at-spec : {M : Type 1} → statement M
 producer-at-spec =

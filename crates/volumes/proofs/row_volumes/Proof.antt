@@ -10,10 +10,10 @@ use Rattle.volumes.proofs.row_volumes.Statement.{statement}
 use Rattle.volumes.proofs.row_volumes.Tie as tie
 
 abbrev Inv-loop : tie.InvT-loop
-Inv-loop s h of₀ j₀ of j = Counted (monthUnder h s) j of × (j ≤ h .rows)
+Inv-loop s layout of₀ j₀ of j = Counted (monthUnder layout s) j of × (j ≤ layout .header .rows)
 
 abbrev μ-loop : tie.MeasureT-loop
-μ-loop s h of₀ j₀ of j = h .rows - j
+μ-loop s layout of₀ j₀ of j = layout .header .rows - j
 
 loop-holds : tie.Need-loop-holds Inv-loop μ-loop
 loop-holds c = (counted-none _, zero-le)
@@ -61,7 +61,7 @@ unfolding supportVolume bilateralVolume
 returns c =
     let l = c .before .before .loop in
     let a = c .before .before .before .before in
-    let end : l .j ≡ a .args .h .rows = omega arith in
+    let end : l .j ≡ a .args .layout .header .rows = omega arith in
     let all = rw end at (l .inv .0) in
     (all .agrees, counted-fits all (omega arith))
 
