@@ -8,7 +8,7 @@ use native.Mathlib.Nat.{eq-or-lt-of-le, mod-eq-of-lt, add-mul-mod-self-right}
 use native.Mathlib.Omega.{arith}
 use lib.Bits.{bitOr, or-mod, or-add-and, and-le-l, and-le-r}
 use borrow.Author.Tests.{le-ltb}
-use Rattle.rules.specs.declared.Header.{Header}
+use Rattle.rules.specs.declared.Layout.{Layout}
 use Rattle.rules.specs.Fields.{bigEndian}
 use Rattle.rules.specs.Sheet.{hourAt, monthUnder}
 use Rattle.rules.specs.Refusals.{oneOf, tooHigh, highHour}
@@ -38,10 +38,10 @@ module _ (s : List ℕ) (at : ℕ) where
   low-more {i} f x k l = ⊎-elim (λ q. rw q x) (λ q. f k q) (let le : k ≤ i = omega arith in eq-or-lt-of-le le)
 
   -- An hour whose three powers do is not above the ceiling.
-  pub low-hour : (h : Header) (p i j : ℕ) → hourAt h p i ≡ at + 12 * j → ((k : ℕ) → k < 72 → Low k) → j < 24
-      → highHour (monthUnder h s .producer p) i ≡ false
+  pub low-hour : (layout : Layout) (p i j : ℕ) → hourAt layout p i ≡ at + 12 * j → ((k : ℕ) → k < 72 → Low k) → j < 24
+      → highHour (monthUnder layout s .producer p) i ≡ false
   unfolding highHour oneOf tooHigh
-  low-hour h p i j e low l =
+  low-hour layout p i j e low l =
       let w : at + 4 * (3 * j) ≡ at + 12 * j = omega arith in
       let q : at + 4 * (3 * j + 1) ≡ at + 12 * j + 4 = omega arith in
       let o : at + 4 * (3 * j + 2) ≡ at + 12 * j + 8 = omega arith in

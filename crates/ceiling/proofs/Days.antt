@@ -4,7 +4,7 @@ use mathlib.Core.Bool.{Bool, _||_, or-false}
 use mathlib.Core.List.{List}
 use Prim.Native.Nat.{ℕ, _+_, _*_}
 use native.Mathlib.Omega.{arith}
-use Rattle.rules.specs.declared.Header.{Header}
+use Rattle.rules.specs.declared.Layout.{Layout}
 use Rattle.rules.specs.Range.{any}
 use Rattle.rules.specs.Sheet.{hourAt, hourOf, monthUnder}
 use Rattle.rules.specs.Refusals.{oneOf, highHour}
@@ -13,9 +13,9 @@ use Rattle.places.proofs.Hours.{hour-there}
 use Rattle.ceiling.specs.High.{highOne}
 
 -- An hour of a producer, where it stands in the sheet.
-pub high-there : (s : List ℕ) (h : Header) (p i : ℕ) {at : ℕ} → hourAt h p i ≡ at → highOne (hourOf s at) ≡ highHour (monthUnder h s .producer p) i
+pub high-there : (s : List ℕ) (layout : Layout) (p i : ℕ) {at : ℕ} → hourAt layout p i ≡ at → highOne (hourOf s at) ≡ highHour (monthUnder layout s .producer p) i
 unfolding highOne highHour oneOf
-high-there s h p i e = rw (e, or-false)
+high-there s layout p i e = rw (e, or-false)
 
 -- A test over the hours of one day more.
 pub day-more : (f : ℕ → Bool) (d : ℕ) {found b : Bool} → found ≡ any f (24 * d) → b ≡ any (λ i. f (24 * d + i)) 24
@@ -23,6 +23,6 @@ pub day-more : (f : ℕ → Bool) (d : ℕ) {found b : Bool} → found ≡ any f
 day-more f d e q = let next : 24 * (d + 1) ≡ 24 * d + 24 = omega arith in rw (e, q, next) (sym (any-append f (24 * d) 24))
 
 -- The 24 hours of a day, where they stand in the sheet.
-pub day-there : (s : List ℕ) (h : Header) (p d : ℕ) {start : ℕ} {b : Bool} → start ≡ hourAt h p 0
-    → b ≡ any (λ i. highOne (hourOf s (start + 288 * d + 12 * i))) 24 → b ≡ any (λ i. highHour (monthUnder h s .producer p) (24 * d + i)) 24
-day-there s h p d e q = q ∙ any-same _ _ 24 (λ j l. high-there s h p (24 * d + j) (hour-there h p (24 * d + j) e ∙ omega arith))
+pub day-there : (s : List ℕ) (layout : Layout) (p d : ℕ) {start : ℕ} {b : Bool} → start ≡ hourAt layout p 0
+    → b ≡ any (λ i. highOne (hourOf s (start + 288 * d + 12 * i))) 24 → b ≡ any (λ i. highHour (monthUnder layout s .producer p) (24 * d + i)) 24
+day-there s layout p d e q = q ∙ any-same _ _ 24 (λ j l. high-there s layout p (24 * d + j) (hour-there layout p (24 * d + j) e ∙ omega arith))

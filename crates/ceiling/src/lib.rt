@@ -12,7 +12,7 @@ ghost use Rattle.ceiling.specs.High.{highOne};
 use fields::word;
 use limits::too_high;
 use places::hours_at;
-use rules::Header;
+use rules::Layout;
 use rules::Hour;
 
 fn wide(b: u8) -> u32
@@ -78,10 +78,10 @@ fn one_by_one(s: &[u8], at: usize) -> bool
 }
 
 // 9, of the hours of a day. A day that is not whole in the sheet is looked at hour by hour.
-fn high_on(s: &[u8], h: Header, p: u8, day: u8) -> bool
-    ensures { λ r. ⌜ r ≡ any (λ i. highHour (monthUnder h (now (s .entry)) .producer p) (24 * day + i)) 24 ⌝ }
+fn high_on(s: &[u8], layout: Layout, p: u8, day: u8) -> bool
+    ensures { λ r. ⌜ r ≡ any (λ i. highHour (monthUnder layout (now (s .entry)) .producer p) (24 * day + i)) 24 ⌝ }
 {
-    let at = hours_at(h, p) + 288 * (day as usize);
+    let at = hours_at(layout, p) + 288 * (day as usize);
     if s.len() < at + 288 {
         return one_by_one(s, at);
     }
@@ -92,13 +92,13 @@ fn high_on(s: &[u8], h: Header, p: u8, day: u8) -> bool
 }
 
 // 9, of producer p's hours.
-pub fn high_hours(s: &[u8], h: Header, p: u8) -> bool
-    ensures { λ r. ⌜ r ≡ any (highHour (monthUnder h (now (s .entry)) .producer p)) (hours h) ⌝ }
+pub fn high_hours(s: &[u8], layout: Layout, p: u8) -> bool
+    ensures { λ r. ⌜ r ≡ any (highHour (monthUnder layout (now (s .entry)) .producer p)) (hours (layout .header)) ⌝ }
 {
     let mut found = false;
     let mut day: u8 = 0;
-    while day < h.days {
-        found = found | high_on(s, h, p, day);
+    while day < layout.header.days {
+        found = found | high_on(s, layout, p, day);
         day += 1;
     }
     found

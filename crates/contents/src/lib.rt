@@ -15,9 +15,9 @@ use limits::high_consumer;
 use limits::too_dear;
 use limits::too_high;
 use places::producer_at;
-use rules::Header;
+use rules::Layout;
 use sheet::consumer;
-use sheet::header;
+use sheet::layout;
 use sheet::row;
 
 // What is wrong with some producer: number 8, number 9.
@@ -41,11 +41,11 @@ struct ConsumerTests {
 }
 
 // 8, of producer p.
-fn bad_share(s: &[u8], h: Header, p: u8) -> bool
-    ensures { λ r. ⌜ r ≡ badShare h (monthUnder h (now (s .entry)) .producer p) ⌝ }
+fn bad_share(s: &[u8], layout: Layout, p: u8) -> bool
+    ensures { λ r. ⌜ r ≡ badShare (layout .header) (monthUnder layout (now (s .entry)) .producer p) ⌝ }
 {
-    let at = producer_at(h, p);
-    let hours = 24 * (h.days as u16);
+    let at = producer_at(layout, p);
+    let hours = 24 * (layout.header.days as u16);
     let late = above_one(word(s, at + 30))
         | (above_one(word(s, at + 34)) | above_one(word(s, at + 38)));
     let given = above_one(word(s, at + 18))
@@ -54,39 +54,39 @@ fn bad_share(s: &[u8], h: Header, p: u8) -> bool
 }
 
 // 9, of producer p.
-fn high_producer(s: &[u8], h: Header, p: u8) -> bool
-    ensures { λ r. ⌜ r ≡ highProducer h (monthUnder h (now (s .entry)) .producer p) ⌝ }
+fn high_producer(s: &[u8], layout: Layout, p: u8) -> bool
+    ensures { λ r. ⌜ r ≡ highProducer (layout .header) (monthUnder layout (now (s .entry)) .producer p) ⌝ }
 {
-    let at = producer_at(h, p);
-    let own = too_high(word(s, at + 8)) | high_hours(s, h, p);
+    let at = producer_at(layout, p);
+    let own = too_high(word(s, at + 8)) | high_hours(s, layout, p);
     too_high(word(s, at)) | (too_high(word(s, at + 4)) | own)
 }
 
-fn producer_tests(s: &[u8], h: Header) -> ProducerTests
-    ensures { λ r. ⌜ r ≡ producerTests (monthUnder h (now (s .entry))) ⌝ }
+fn producer_tests(s: &[u8], layout: Layout) -> ProducerTests
+    ensures { λ r. ⌜ r ≡ producerTests (monthUnder layout (now (s .entry))) ⌝ }
 {
     let mut share = false;
     let mut high = false;
     let mut p: u8 = 0;
-    while p < h.producers {
-        share = share | bad_share(s, h, p);
-        high = high | high_producer(s, h, p);
+    while p < layout.header.producers {
+        share = share | bad_share(s, layout, p);
+        high = high | high_producer(s, layout, p);
         p += 1;
     }
     ProducerTests { share, high }
 }
 
-fn row_tests(s: &[u8], h: Header) -> RowTests
-    ensures { λ r. ⌜ r ≡ rowTests (monthUnder h (now (s .entry))) ⌝ }
+fn row_tests(s: &[u8], layout: Layout) -> RowTests
+    ensures { λ r. ⌜ r ≡ rowTests (monthUnder layout (now (s .entry))) ⌝ }
 {
     let mut high = false;
     let mut reference = false;
     let mut dear = false;
     let mut j: u8 = 0;
-    while j < h.rows {
-        let r = row(s, h, j);
+    while j < layout.header.rows {
+        let r = row(s, layout, j);
         high = high | too_high(r.volume);
-        reference = reference | bad_reference(h, r);
+        reference = reference | bad_reference(layout.header, r);
         dear = dear | too_dear(r.price);
         j += 1;
     }
@@ -97,30 +97,30 @@ fn row_tests(s: &[u8], h: Header) -> RowTests
     }
 }
 
-fn consumer_tests(s: &[u8], h: Header) -> ConsumerTests
-    ensures { λ r. ⌜ r ≡ consumerTests (monthUnder h (now (s .entry))) ⌝ }
+fn consumer_tests(s: &[u8], layout: Layout) -> ConsumerTests
+    ensures { λ r. ⌜ r ≡ consumerTests (monthUnder layout (now (s .entry))) ⌝ }
 {
     let mut high = false;
     let mut dear = false;
     let mut factor = false;
     let mut j: u8 = 0;
-    while j < h.consumers {
-        let c = consumer(s, h, j);
+    while j < layout.header.consumers {
+        let c = consumer(s, layout, j);
         high = high | high_consumer(c);
         dear = dear | too_dear(c.price);
-        factor = factor | bad_factor(h, c);
+        factor = factor | bad_factor(layout.header, c);
         j += 1;
     }
     ConsumerTests { high, dear, factor }
 }
 
 // The first of the numbers 8 to 12 that applies to the figures that a header puts into a sheet, 0 where none does.
-pub fn figure_refusal(s: &[u8], h: Header) -> u8
-    ensures { λ r. ⌜ r ≡ firstOf (figureTests (monthUnder h (now (s .entry)))) ⌝ }
+pub fn figure_refusal(s: &[u8], layout: Layout) -> u8
+    ensures { λ r. ⌜ r ≡ firstOf (figureTests (monthUnder layout (now (s .entry)))) ⌝ }
 {
-    let p = producer_tests(s, h);
-    let r = row_tests(s, h);
-    let c = consumer_tests(s, h);
+    let p = producer_tests(s, layout);
+    let r = row_tests(s, layout);
+    let c = consumer_tests(s, layout);
     let twelve = first(12, c.factor, 0);
     let eleven = first(11, r.dear | c.dear, twelve);
     let ten = first(10, r.reference, eleven);
@@ -136,5 +136,5 @@ pub fn sheet_refusal(s: &[u8]) -> u8
     if form != 0 {
         return form;
     }
-    figure_refusal(s, header(s))
+    figure_refusal(s, layout(s))
 }

@@ -5,8 +5,8 @@ use Prim.Native.Nat.{ℕ, _+_, _-_, _*_, _≤_, _<_}
 use native.Mathlib.Nat.{add-sub-cancel-left}
 use native.Mathlib.Omega.{arith}
 use lib.ListN.{length, take, drop, length-take, length-drop}
-use Rattle.rules.specs.declared.Header.{Header}
-use Rattle.rules.specs.Sheet.{headerOf, hourAt}
+use Rattle.rules.specs.declared.Layout.{Layout}
+use Rattle.rules.specs.Sheet.{headerOf, layoutOf, hourAt}
 use Rattle.rules.specs.Refusals.{formTests, firstOf}
 use Rattle.rules.specs.Outcome.{hoursStretch, within}
 use Rattle.laws.proofs.Refusals.{stretch-there, stretch-ends}
@@ -18,21 +18,21 @@ unfolding within
 no-stretch s p q e = rw e (refl, omega arith, refl)
 
 -- The stretch of a producer below P, found through the header.
-module _ (s : List ℕ) (p at : ℕ) (h : Header) (eh : h ≡ headerOf s) (e : at ≡ hourAt h p 0) (f : firstOf (formTests s) ≡ 0) (l : p < h .producers) where
+module _ (s : List ℕ) (p at : ℕ) (layout : Layout) (eh : layout ≡ layoutOf s) (e : at ≡ hourAt layout p 0) (f : firstOf (formTests s) ≡ 0) (l : p < layout .header .producers) where
   below : p < headerOf s .producers
   below = rw eh at l
 
-  pub stretch-fits : at + 288 * h .days ≤ length s
+  pub stretch-fits : at + 288 * layout .header .days ≤ length s
   stretch-fits = rw (e, eh) (stretch-ends s p f below)
 
-  pub stretch-list : take (at + 288 * h .days - at) (drop at s) ≡ within (hoursStretch s p) s
+  pub stretch-list : take (at + 288 * layout .header .days - at) (drop at s) ≡ within (hoursStretch s p) s
   unfolding within
   stretch-list = rw (stretch-there s p f below, add-sub-cancel-left, e, eh)
 
   pub stretch-place : (q : ℕ) → at + q ≡ hoursStretch s p .place + q
   stretch-place q = rw (stretch-there s p f below, e, eh)
 
-  pub stretch-length : length (take (at + 288 * h .days - at) (drop at s)) ≡ hoursStretch s p .bytes
+  pub stretch-length : length (take (at + 288 * layout .header .days - at) (drop at s)) ≡ hoursStretch s p .bytes
   stretch-length =
       let fits = stretch-fits in
-      simp (length-take, length-drop) (rw (stretch-there s p f below, ap (λ (x : Header). x .days) (sym eh)) (omega arith))
+      simp (length-take, length-drop) (rw (stretch-there s p f below, ap (λ (x : Layout). x .header .days) (sym eh)) (omega arith))

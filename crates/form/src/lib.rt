@@ -8,7 +8,8 @@ use fields::word;
 use places::result_length;
 use places::sheet_length;
 use rules::Header;
-use sheet::header;
+use rules::Layout;
+use sheet::layout;
 
 mod stretch;
 
@@ -35,13 +36,13 @@ fn too_many(h: Header) -> bool
     (6 < h.producers) | ((32 < h.rows) | (32 < h.consumers))
 }
 
-// The first of the numbers 4 to 6 that applies to a header, with a sheet of so many bytes; 0 where none does.
-pub fn header_refusal(h: Header, bytes: usize) -> u8
-    ensures { λ r. ⌜ r ≡ firstOf (headerTests h bytes) ⌝ }
+// The first of the numbers 4 to 6 that applies under a layout, with a sheet of so many bytes; 0 where none does.
+pub fn header_refusal(layout: Layout, bytes: usize) -> u8
+    ensures { λ r. ⌜ r ≡ firstOf (headerTests layout bytes) ⌝ }
 {
-    let six = first(6, bytes != sheet_length(h), 0);
-    let five = first(5, too_many(h), six);
-    first(4, bad_month(h), five)
+    let six = first(6, bytes != sheet_length(layout), 0);
+    let five = first(5, too_many(layout.header), six);
+    first(4, bad_month(layout.header), five)
 }
 
 // The first of the numbers 1 to 3 that applies to a sheet, 0 where none does.
@@ -61,7 +62,7 @@ pub fn form_refusal(s: &[u8]) -> u8
     if front != 0 {
         return front;
     }
-    header_refusal(header(s), word(s, 0) as usize)
+    header_refusal(layout(s), word(s, 0) as usize)
 }
 
 // 7 where the result does not fit into a buffer of so many bytes, otherwise 0.

@@ -5,7 +5,6 @@ ghost use lib.ListN.{length};
 ghost use Rattle.rules.specs.Outcome.{hoursStretch, within};
 use crate::form_refusal;
 use places::hours_at;
-use sheet::header;
 
 // Producer p's hours: that part of the lent sheet, and no copy. Empty where a number from 1 to 6 applies, or there is no producer p.
 pub fn producer_hours(s: &[u8], p: u8) -> &[u8]
@@ -16,11 +15,11 @@ pub fn producer_hours(s: &[u8], p: u8) -> &[u8]
     if form_refusal(s) != 0 {
         return &s[..0];
     }
-    let h = header(s);
-    if h.producers <= p {
+    let layout = sheet::layout(s);
+    if layout.header.producers <= p {
         return &s[..0];
     }
-    let at = hours_at(h, p);
-    let end = at + 288 * (h.days as usize);
+    let at = hours_at(layout, p);
+    let end = at + 288 * (layout.header.days as usize);
     &s[at..end]
 }

@@ -11,10 +11,10 @@ use Rattle.ceiling.proofs.high_hours.Statement.{statement}
 use Rattle.ceiling.proofs.high_hours.Tie as tie
 
 abbrev Inv-loop : tie.InvT-loop
-Inv-loop s h p found₀ day₀ found day = (found ≡ any (highHour (monthUnder h s .producer p)) (24 * day)) × (day ≤ h .days)
+Inv-loop s layout p found₀ day₀ found day = (found ≡ any (highHour (monthUnder layout s .producer p)) (24 * day)) × (day ≤ layout .header .days)
 
 abbrev μ-loop : tie.MeasureT-loop
-μ-loop s h p found₀ day₀ found day = h .days - day
+μ-loop s layout p found₀ day₀ found day = layout .header .days - day
 
 loop-holds : tie.Need-loop-holds Inv-loop μ-loop
 loop-holds c = (sym (any-start _), zero-le)

@@ -11,14 +11,14 @@ use Rattle.contents.proofs.consumer_tests.Statement.{statement}
 use Rattle.contents.proofs.consumer_tests.Tie as tie
 
 abbrev Inv-loop : tie.InvT-loop
-Inv-loop s h high₀ dear₀ factor₀ j₀ high dear factor j =
-    (high ≡ any (λ i. highConsumer (monthUnder h s .consumer i)) j)
-    × (dear ≡ any (λ i. tooDear (monthUnder h s .consumer i .price)) j)
-    × (factor ≡ any (λ i. badFactor h (monthUnder h s .consumer i)) j)
-    × (j ≤ h .consumers)
+Inv-loop s layout high₀ dear₀ factor₀ j₀ high dear factor j =
+    (high ≡ any (λ i. highConsumer (monthUnder layout s .consumer i)) j)
+    × (dear ≡ any (λ i. tooDear (monthUnder layout s .consumer i .price)) j)
+    × (factor ≡ any (λ i. badFactor (layout .header) (monthUnder layout s .consumer i)) j)
+    × (j ≤ layout .header .consumers)
 
 abbrev μ-loop : tie.MeasureT-loop
-μ-loop s h high₀ dear₀ factor₀ j₀ high dear factor j = h .consumers - j
+μ-loop s layout high₀ dear₀ factor₀ j₀ high dear factor j = layout .header .consumers - j
 
 loop-holds : tie.Need-loop-holds Inv-loop μ-loop
 loop-holds c = (sym (any-start _), sym (any-start _), sym (any-start _), zero-le)
@@ -52,9 +52,9 @@ loop-again c = (
 returns : tie.Need-returns Inv-loop μ-loop
 returns c =
     rw (
-      any-done _ {n = c .before .before .before .before .args .h .consumers} (omega arith) (omega arith) (c .before .before .loop .inv .0),
-      any-done _ {n = c .before .before .before .before .args .h .consumers} (omega arith) (omega arith) (c .before .before .loop .inv .1),
-      any-done _ {n = c .before .before .before .before .args .h .consumers} (omega arith) (omega arith) (c .before .before .loop .inv .2),
+      any-done _ {n = c .before .before .before .before .args .layout .header .consumers} (omega arith) (omega arith) (c .before .before .loop .inv .0),
+      any-done _ {n = c .before .before .before .before .args .layout .header .consumers} (omega arith) (omega arith) (c .before .before .loop .inv .1),
+      any-done _ {n = c .before .before .before .before .args .layout .header .consumers} (omega arith) (omega arith) (c .before .before .loop .inv .2),
     )
 
 pub consumer-tests-spec : {M : Type 1} → statement M

@@ -10,13 +10,13 @@ use Rattle.contents.proofs.producer_tests.Statement.{statement}
 use Rattle.contents.proofs.producer_tests.Tie as tie
 
 abbrev Inv-loop : tie.InvT-loop
-Inv-loop s h share₀ high₀ p₀ share high p =
-    (share ≡ any (λ i. badShare h (monthUnder h s .producer i)) p)
-    × (high ≡ any (λ i. highProducer h (monthUnder h s .producer i)) p)
-    × (p ≤ h .producers)
+Inv-loop s layout share₀ high₀ p₀ share high p =
+    (share ≡ any (λ i. badShare (layout .header) (monthUnder layout s .producer i)) p)
+    × (high ≡ any (λ i. highProducer (layout .header) (monthUnder layout s .producer i)) p)
+    × (p ≤ layout .header .producers)
 
 abbrev μ-loop : tie.MeasureT-loop
-μ-loop s h share₀ high₀ p₀ share high p = h .producers - p
+μ-loop s layout share₀ high₀ p₀ share high p = layout .header .producers - p
 
 loop-holds : tie.Need-loop-holds Inv-loop μ-loop
 loop-holds c = (sym (any-start _), sym (any-start _), zero-le)
@@ -39,8 +39,8 @@ loop-again c = (any-fold _ _ (c .before .before .before .before .loop .inv .0) (
 returns : tie.Need-returns Inv-loop μ-loop
 returns c =
     rw (
-      any-done _ {n = c .before .before .before .before .args .h .producers} (omega arith) (omega arith) (c .before .before .loop .inv .0),
-      any-done _ {n = c .before .before .before .before .args .h .producers} (omega arith) (omega arith) (c .before .before .loop .inv .1),
+      any-done _ {n = c .before .before .before .before .args .layout .header .producers} (omega arith) (omega arith) (c .before .before .loop .inv .0),
+      any-done _ {n = c .before .before .before .before .args .layout .header .producers} (omega arith) (omega arith) (c .before .before .loop .inv .1),
     )
 
 pub producer-tests-spec : {M : Type 1} → statement M

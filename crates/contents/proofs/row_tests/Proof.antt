@@ -11,14 +11,14 @@ use Rattle.contents.proofs.row_tests.Statement.{statement}
 use Rattle.contents.proofs.row_tests.Tie as tie
 
 abbrev Inv-loop : tie.InvT-loop
-Inv-loop s h high₀ reference₀ dear₀ j₀ high reference dear j =
-    (high ≡ any (λ i. highRow (monthUnder h s .row i)) j)
-    × (reference ≡ any (λ i. badReference h (monthUnder h s .row i)) j)
-    × (dear ≡ any (λ i. tooDear (monthUnder h s .row i .price)) j)
-    × (j ≤ h .rows)
+Inv-loop s layout high₀ reference₀ dear₀ j₀ high reference dear j =
+    (high ≡ any (λ i. highRow (monthUnder layout s .row i)) j)
+    × (reference ≡ any (λ i. badReference (layout .header) (monthUnder layout s .row i)) j)
+    × (dear ≡ any (λ i. tooDear (monthUnder layout s .row i .price)) j)
+    × (j ≤ layout .header .rows)
 
 abbrev μ-loop : tie.MeasureT-loop
-μ-loop s h high₀ reference₀ dear₀ j₀ high reference dear j = h .rows - j
+μ-loop s layout high₀ reference₀ dear₀ j₀ high reference dear j = layout .header .rows - j
 
 loop-holds : tie.Need-loop-holds Inv-loop μ-loop
 loop-holds c = (sym (any-start _), sym (any-start _), sym (any-start _), zero-le)
@@ -53,9 +53,9 @@ loop-again c = (
 returns : tie.Need-returns Inv-loop μ-loop
 returns c =
     rw (
-      any-done _ {n = c .before .before .before .before .args .h .rows} (omega arith) (omega arith) (c .before .before .loop .inv .0),
-      any-done _ {n = c .before .before .before .before .args .h .rows} (omega arith) (omega arith) (c .before .before .loop .inv .1),
-      any-done _ {n = c .before .before .before .before .args .h .rows} (omega arith) (omega arith) (c .before .before .loop .inv .2),
+      any-done _ {n = c .before .before .before .before .args .layout .header .rows} (omega arith) (omega arith) (c .before .before .loop .inv .0),
+      any-done _ {n = c .before .before .before .before .args .layout .header .rows} (omega arith) (omega arith) (c .before .before .loop .inv .1),
+      any-done _ {n = c .before .before .before .before .args .layout .header .rows} (omega arith) (omega arith) (c .before .before .loop .inv .2),
     )
 
 pub row-tests-spec : {M : Type 1} → statement M

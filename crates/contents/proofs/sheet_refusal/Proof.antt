@@ -14,8 +14,8 @@ returns c =
     let e = c .before .form-refusal .ensures in
     e ∙ first-stands _ _ (form-numbered _) (λ z. c .if1 .taken (e ∙ z))
 
-header-requires : tie.Need-header-requires
-header-requires c κs = search needs
+layout-requires : tie.Need-layout-requires
+layout-requires c κs = search needs
 
 figure-refusal-requires : tie.Need-figure-refusal-requires
 figure-refusal-requires c κs = search needs
@@ -24,9 +24,9 @@ returns-2 : tie.Need-returns-2
 unfolding sheetTests
 returns-2 c =
     let form = sym (c .before .before .before .form-refusal .ensures) ∙ c .before .before .if1 .left in
-    rw (c .figure-refusal .ensures, c .before .header .ensures) (first-next _ _ (form-numbered _) form)
+    rw (c .figure-refusal .ensures, c .before .layout .ensures) (first-next _ _ (form-numbered _) form)
 
 pub sheet-refusal-spec : {M : Type 1} → statement M
 sheet-refusal-spec =
     tie.close
-    (tie.spec form-refusal-requires returns header-requires figure-refusal-requires returns-2)
+    (tie.spec form-refusal-requires returns layout-requires figure-refusal-requires returns-2)

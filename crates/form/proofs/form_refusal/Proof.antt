@@ -1,6 +1,5 @@
 use mathlib.Core.Path.{sym, ap, _∙_}
 use Prim.Native.Nat.{ℕ}
-use Rattle.rules.specs.declared.Header.{Header}
 use Rattle.rules.specs.Sheet.{lengthField}
 use Rattle.rules.specs.Refusals.{frontTests, headerTests, formTests, firstOf}
 use Rattle.laws.proofs.Refusals.{first-stands, first-next, front-numbered}
@@ -17,8 +16,8 @@ returns c =
     let e = c .before .front-refusal .ensures in
     e ∙ first-stands _ _ (front-numbered _) (λ z. c .if1 .taken (e ∙ z))
 
-header-requires : tie.Need-header-requires
-header-requires c κs = search needs
+layout-requires : tie.Need-layout-requires
+layout-requires c κs = search needs
 
 word-requires : tie.Need-word-requires
 word-requires c κs = search needs
@@ -33,7 +32,7 @@ returns-2 : tie.Need-returns-2
 unfolding formTests lengthField
 returns-2 c =
     let front = sym (c .before .before .before .before .front-refusal .ensures) ∙ c .before .before .before .if1 .left in
-    rw (c .header-refusal .ensures, c .before .word .ensures, c .before .before .header .ensures) (first-next _ _ (front-numbered _) front)
+    rw (c .header-refusal .ensures, c .before .word .ensures, c .before .before .layout .ensures) (first-next _ _ (front-numbered _) front)
 
 pub form-refusal-spec : {M : Type 1} → statement M
 form-refusal-spec =
@@ -41,7 +40,7 @@ form-refusal-spec =
     (tie.spec
     front-refusal-requires
     returns
-    header-requires
+    layout-requires
     word-requires
     cast-header-refusal
     header-refusal-requires

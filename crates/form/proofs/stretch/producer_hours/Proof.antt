@@ -18,8 +18,8 @@ returns c =
     no-stretch _ _ _ (stretch-refused (c .before .before .before .before .args .s .now) (c .before .before .before .before .args .p) (λ z. c .before .if1 .taken (c .before .before .form-refusal .ensures ∙ z))) in
     (p .0, ((refl, p .1), p .2))
 
-header-requires : tie.Need-header-requires
-header-requires c κs = search needs
+layout-requires : tie.Need-layout-requires
+layout-requires c κs = search needs
 
 slice-aggregate-result-2 : tie.Need-slice-aggregate-result-2
 slice-aggregate-result-2 c = search needs
@@ -29,7 +29,7 @@ returns-2 c =
     let p =
     no-stretch _ _ _
     (stretch-none (c .before .before .before .before .before .before .before .args .s .now) (c .before .before .before .before .before .before .before .args .p) (sym (c .before .before .before .before .before .form-refusal .ensures) ∙ c .before .before .before .before .if1 .left)
-    (rw (c .before .before .before .header .ensures) at (c .before .if2 .taken))) in
+    (rw (c .before .before .before .layout .ensures) at (c .before .if2 .taken))) in
     (p .0, ((refl, p .1), p .2))
 
 hours-at-requires : tie.Need-hours-at-requires
@@ -54,14 +54,14 @@ part-result-end : tie.Need-part-result-end
 part-result-end c =
     omega (
       arith,
-      stretch-fits (c .before .before .before .before .before .before .before .before .args .s .now) (c .before .before .before .before .before .before .before .before .args .p) (c .before .hours-at .result) (c .before .before .before .before .header .result) (c .before .before .before .before .header .ensures)
+      stretch-fits (c .before .before .before .before .before .before .before .before .args .s .now) (c .before .before .before .before .before .before .before .before .args .p) (c .before .hours-at .result) (c .before .before .before .before .layout .result) (c .before .before .before .before .layout .ensures)
           (c .before .hours-at .ensures .0) (sym (c .before .before .before .before .before .before .form-refusal .ensures) ∙ c .before .before .before .before .before .if1 .left) (c .before .before .if2 .left),
     )
 
 returns-3 : tie.Need-returns-3
 returns-3 c =
     let a = c .before .before .before .before .before .before .before .before .before .args in
-    let h = c .before .before .before .before .before .header in
+    let h = c .before .before .before .before .before .layout in
     let at = c .before .before .hours-at in
     let f = sym (c .before .before .before .before .before .before .before .form-refusal .ensures) ∙ c .before .before .before .before .before .before .if1 .left in
     let l = c .before .before .before .if2 .left in (
@@ -79,7 +79,7 @@ producer-hours-spec =
     form-refusal-requires
     slice-aggregate-result
     returns
-    header-requires
+    layout-requires
     slice-aggregate-result-2
     returns-2
     hours-at-requires
