@@ -12,8 +12,8 @@ ghost use Rattle.ceiling.specs.High.{highOne};
 use fields::word;
 use limits::too_high;
 use places::hours_at;
-use rules::Layout;
 use rules::Hour;
+use rules::Layout;
 
 fn wide(b: u8) -> u32
     ensures { λ r. ⌜ (r ≡ b) × (r ≤ 255) ⌝ }

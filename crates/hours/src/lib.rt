@@ -8,8 +8,8 @@ ghost use Rattle.hours.specs.Sums.{K4Before, k4In};
 use fields::word;
 use figures::Tenths;
 use places::hours_at;
-use rules::Layout;
 use rules::Hour;
+use rules::Layout;
 
 // Over the hours: m, and what was met of it (k4).
 pub struct K4 {

@@ -4,16 +4,16 @@ use mathlib.Core.Bool.{cond}
 use mathlib.Core.List.{List, _++_}
 use lib.ListN.{length}
 use lib.Dec.{eqb}
-use Rattle.rules.specs.declared.Header.{Header}
+use Rattle.rules.specs.declared.Layout.{Layout}
 use Rattle.rules.specs.Fields.{over}
 use Rattle.rules.specs.Sheet.{monthUnder}
 use Rattle.rules.specs.Result.{resultOf}
 use Rattle.rules.specs.Refusals.{headerTests, roomTests, figureTests, firstOf}
 
 -- The first of 4 to 12, 0 where none applies.
-unfoldable pub monthNumber : Header → List ℕ → ℕ → ℕ
-monthNumber h s room = firstOf (headerTests h (length s) ++ (roomTests h room ++ figureTests (monthUnder h s)))
+unfoldable pub monthNumber : Layout → List ℕ → ℕ → ℕ
+monthNumber layout s room = firstOf (headerTests layout (length s) ++ (roomTests (layout .header) room ++ figureTests (monthUnder layout s)))
 
 -- The result over the buffer's front where none applies, otherwise the buffer as it was.
-unfoldable pub monthAfter : Header → List ℕ → List ℕ → List ℕ
-monthAfter h s out = cond (eqb (monthNumber h s (length out)) 0) (over (resultOf (monthUnder h s)) out) out
+unfoldable pub monthAfter : Layout → List ℕ → List ℕ → List ℕ
+monthAfter layout s out = cond (eqb (monthNumber layout s (length out)) 0) (over (resultOf (monthUnder layout s)) out) out

@@ -5,7 +5,7 @@ ghost use Rattle.month.specs.Numbers.{monthNumber, monthAfter};
 use contents::figure_refusal;
 use form::header_refusal;
 use form::room_refusal;
-use rules::Header;
+use rules::Layout;
 
 mod consumers;
 mod result;
@@ -13,22 +13,22 @@ mod rows;
 
 // The first of the numbers 4 to 12 that applies to the month that a header puts into a sheet. Where none does the answer is 0 and the
 // result stands at the buffer's front.
-pub fn settle_month(s: &[u8], h: Header, out: &mut [u8]) -> u8
-    ensures { λ r. ⌜ r ≡ monthNumber h (now (s .entry)) (length (now (out .entry))) ⌝ }
-    ensures buffer { λ r. ⌜ now (out .exit) ≡ monthAfter h (now (s .entry)) (now (out .entry)) ⌝ }
+pub fn settle_month(s: &[u8], layout: Layout, out: &mut [u8]) -> u8
+    ensures { λ r. ⌜ r ≡ monthNumber layout (now (s .entry)) (length (now (out .entry))) ⌝ }
+    ensures buffer { λ r. ⌜ now (out .exit) ≡ monthAfter layout (now (s .entry)) (now (out .entry)) ⌝ }
 {
-    let form = header_refusal(h, s.len());
+    let form = header_refusal(layout, s.len());
     if form != 0 {
         return form;
     }
-    let room = room_refusal(h, out.len());
+    let room = room_refusal(layout.header, out.len());
     if room != 0 {
         return room;
     }
-    let number = figure_refusal(s, h);
+    let number = figure_refusal(s, layout);
     if number != 0 {
         return number;
     }
-    result::write_result(s, h, out);
+    result::write_result(s, layout, out);
     0
 }

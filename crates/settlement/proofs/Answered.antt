@@ -4,8 +4,8 @@ use mathlib.Core.List.{List, _++_, append-assoc}
 use Prim.Native.Nat.{ℕ}
 use borrow.Author.Tests.{eqb-true, eq-eqb, ne-eqb}
 use lib.ListN.{length}
-use Rattle.rules.specs.declared.Header.{Header}
-use Rattle.rules.specs.Sheet.{lengthField, headerOf, monthOf}
+use Rattle.rules.specs.declared.Layout.{Layout}
+use Rattle.rules.specs.Sheet.{lengthField, headerOf, layoutOf, monthOf}
 use Rattle.rules.specs.Result.{resultLength}
 use Rattle.rules.specs.Refusals.{frontTests, headerTests, formTests, roomTests, figureTests, tests, applies, firstOf, refusal}
 use Rattle.rules.specs.Outcome.{refused, written, outcome, bufferAfter}
@@ -14,7 +14,7 @@ use Rattle.month.specs.Numbers.{monthNumber, monthAfter}
 
 module _ (s : List ℕ) (room : ℕ) where
   -- The tests past the first three, with the length that the sheet states.
-  later : refusal s room ≡ firstOf (frontTests s ++ (headerTests (headerOf s) (lengthField s) ++ (roomTests (headerOf s) room ++ figureTests (monthOf s))))
+  later : refusal s room ≡ firstOf (frontTests s ++ (headerTests (layoutOf s) (lengthField s) ++ (roomTests (headerOf s) room ++ figureTests (monthOf s))))
   unfolding refusal tests formTests
   later = simp append-assoc
 
@@ -25,7 +25,7 @@ module _ (s : List ℕ) (room : ℕ) where
   told : firstOf (frontTests s) ≡ 0 → lengthField s ≡ length s
   told n = unfold frontTests applies in eqb-true _ _ (not-true _ (none-applies (frontTests s) (front-numbered s) n 2))
 
-  pub month-next : firstOf (frontTests s) ≡ 0 → monthNumber (headerOf s) s room ≡ refusal s room
+  pub month-next : firstOf (frontTests s) ≡ 0 → monthNumber (layoutOf s) s room ≡ refusal s room
   unfolding monthNumber
   month-next n = rw (sym (told n)) (first-next (frontTests s) _ (front-numbered s) n ∙ sym later)
 
@@ -37,19 +37,19 @@ turned-down s out n e p =
     (rw (q, e), rw q)
 
 -- What the month leaves is what the sheet leaves.
-module _ (s out : List ℕ) (h : Header) (eh : h ≡ headerOf s) (front : firstOf (frontTests s) ≡ 0) where
-  number : {n : ℕ} → n ≡ monthNumber h s (length out) → n ≡ refusal s (length out)
-  number e = e ∙ ap (λ (x : Header). monthNumber x s (length out)) eh ∙ month-next s (length out) front
+module _ (s out : List ℕ) (layout : Layout) (el : layout ≡ layoutOf s) (front : firstOf (frontTests s) ≡ 0) where
+  number : {n : ℕ} → n ≡ monthNumber layout s (length out) → n ≡ refusal s (length out)
+  number e = e ∙ ap (λ (x : Layout). monthNumber x s (length out)) el ∙ month-next s (length out) front
 
-  after : monthAfter h s out ≡ bufferAfter s out
+  after : monthAfter layout s out ≡ bufferAfter s out
   unfolding monthAfter bufferAfter
-  after = rw (eh, month-next s (length out) front)
+  after = rw (el, month-next s (length out) front)
 
-  pub refused-then : {n : ℕ} (x : List ℕ) → n ≡ monthNumber h s (length out) → (n ≡ 0 → ⊥) → x ≡ monthAfter h s out
+  pub refused-then : {n : ℕ} (x : List ℕ) → n ≡ monthNumber layout s (length out) → (n ≡ 0 → ⊥) → x ≡ monthAfter layout s out
       → (refused n ≡ outcome s (length out)) × (x ≡ bufferAfter s out)
   refused-then x e p q = (turned-down s out _ (number e) p .0, q ∙ after)
 
-  pub settled-then : {n count : ℕ} (x : List ℕ) → n ≡ monthNumber h s (length out) → n ≡ 0 → count ≡ resultLength h → x ≡ monthAfter h s out
+  pub settled-then : {n count : ℕ} (x : List ℕ) → n ≡ monthNumber layout s (length out) → n ≡ 0 → count ≡ resultLength (layout .header) → x ≡ monthAfter layout s out
       → (written count ≡ outcome s (length out)) × (x ≡ bufferAfter s out)
   unfolding outcome
-  settled-then x e z k q = (rw (eq-eqb (refusal s (length out)) 0 (sym (number e) ∙ z), k, eh), q ∙ after)
+  settled-then x e z k q = (rw (eq-eqb (refusal s (length out)) 0 (sym (number e) ∙ z), k, el), q ∙ after)

@@ -8,7 +8,6 @@ use form::front_refusal;
 use form::producer_hours;
 use month::settle_month;
 use places::result_length;
-use sheet::header;
 
 // What a settlement answers: a refusal with its number, or the count of bytes written.
 pub enum Answer {
@@ -25,12 +24,12 @@ pub fn settle(sheet: &[u8], result: &mut [u8]) -> Answer
     if front != 0 {
         return Answer::Refused(front);
     }
-    let h = header(sheet);
-    let number = settle_month(sheet, h, result);
+    let layout = sheet::layout(sheet);
+    let number = settle_month(sheet, layout, result);
     if number != 0 {
         return Answer::Refused(number);
     }
-    Answer::Written(result_length(h))
+    Answer::Written(result_length(layout.header))
 }
 
 // Producer p's hours: that part of the lent sheet, and no copy. Empty where a number from 1 to 6 applies, or there is no producer p.

@@ -7,7 +7,7 @@ use native.Mathlib.Omega.{arith}
 use borrow.Author.Tests.{ltb-true, ltb-false, lt-ltb, le-ltb}
 use lib.Dec.{ltb}
 use lib.ListN.{length, getD, set, replicate}
-use Rattle.rules.specs.declared.Header.{Header}
+use Rattle.rules.specs.declared.Layout.{Layout}
 use Rattle.rules.specs.Month.{Month}
 use Rattle.rules.specs.Sheet.{sheetLength, monthUnder}
 use Rattle.rules.specs.Limits.{HeaderLimits}
@@ -52,10 +52,10 @@ known-more m p ts t k l e =
     agrees-set 6 noTerms p l (rw (lt-ltb p (p + 1) (omega arith)) e) (λ q b n. rw (below-more q p n)) k
 
 -- In a whole sheet whose header keeps to its limits every producer has its terms.
-module _ (h : Header) (s : List ℕ) (w : HeaderLimits h) (whole : sheetLength h ≤ length s) where
-  all-have : withTerms h s ≡ h .producers
+module _ (layout : Layout) (s : List ℕ) (w : HeaderLimits (layout .header)) (whole : sheetLength layout ≤ length s) where
+  all-have : withTerms layout s ≡ layout .header .producers
   unfolding withTerms
-  all-have = rw (le-ltb 31 (h .days) (w .days-to), le-ltb (length s) (sheetLength h) whole) (omega (arith, w .producers))
+  all-have = rw (le-ltb 31 (layout .header .days) (w .days-to), le-ltb (length s) (sheetLength layout) whole) (omega (arith, w .producers))
 
-  pub known-first : (ts : List Terms) → Agrees 6 noTerms (termsOf h s) ts → Known (monthUnder h s) 0 (h .producers) ts
+  pub known-first : (ts : List Terms) → Agrees 6 noTerms (termsOf layout s) ts → Known (monthUnder layout s) 0 (layout .header .producers) ts
   known-first ts k = rw all-have at k

@@ -4,7 +4,7 @@ use mathlib.Core.Bool.{cond, _||_}
 use mathlib.Core.List.{List, []}
 use lib.ListN.{length, replicate}
 use lib.Dec.{ltb}
-use Rattle.rules.specs.declared.Header.{Header}
+use Rattle.rules.specs.declared.Layout.{Layout}
 use Rattle.rules.specs.Month.{Month}
 use Rattle.rules.specs.Sheet.{sheetLength, monthUnder}
 use Rattle.rules.specs.Cut.{leftToCut}
@@ -32,8 +32,8 @@ abbrev pub zeroTerms : Terms
 zeroTerms = record { excess = tenths 0; ks = replicate 10 0 }
 
 -- How many producers of a sheet have terms: at most six, and none in a month of more than 31 days or in a sheet that ends too soon.
-unfoldable pub withTerms : Header → List ℕ → ℕ
-withTerms h s = cond (ltb 31 (h .days) || ltb (length s) (sheetLength h)) 0 (min (h .producers) 6)
+unfoldable pub withTerms : Layout → List ℕ → ℕ
+withTerms layout s = cond (ltb 31 (layout .header .days) || ltb (length s) (sheetLength layout)) 0 (min (layout .header .producers) 6)
 
 -- The first n producers when row j's turn comes; past them there are none.
 unfoldable pub termsBelow : Month → ℕ → ℕ → ℕ → Terms
@@ -44,5 +44,5 @@ abbrev pub Known : Month → ℕ → ℕ → List Terms → Type 0
 Known m j n terms = Agrees 6 noTerms (termsBelow m j n) terms
 
 -- Before the first row.
-abbrev pub termsOf : Header → List ℕ → ℕ → Terms
-termsOf h s = termsBelow (monthUnder h s) 0 (withTerms h s)
+abbrev pub termsOf : Layout → List ℕ → ℕ → Terms
+termsOf layout s = termsBelow (monthUnder layout s) 0 (withTerms layout s)

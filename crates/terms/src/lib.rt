@@ -28,7 +28,7 @@ use hours::K4;
 use hours::k4_sums;
 use places::producer_at;
 use places::sheet_length;
-use rules::Header;
+use rules::Layout;
 use volumes::Volumes;
 use volumes::row_volumes;
 
@@ -81,16 +81,24 @@ fn k4_of(sums: K4) -> u64
 }
 
 // k1 to k10 of producer p, whose figures begin at a place.
-fn ks_of(s: &[u8], h: Header, p: u8, at: usize, v: Volumes, sums: K4, control: Control) -> [u64; 10]
-    requires { ⌜ (h .days ≤ 31) × (at ≡ producerAt h p) × (at ≤ 20000000) ⌝ }
-    requires { ⌜ (v ≡ volumesOf (monthUnder h (now s)) p) × (v .support .0 ≤ mostVolume) ⌝ }
-    requires { ⌜ (sums ≡ k4Of h (monthUnder h (now s) .producer p) (summedCapacity (monthUnder h (now s)) p))
-        × (sums .met .0 ≤ 4294967295 * hours h) ⌝ }
-    requires { ⌜ (control ≡ controlOf h (monthUnder h (now s) .producer p .outsideUse))
+fn ks_of(
+    s: &[u8],
+    layout: Layout,
+    p: u8,
+    at: usize,
+    v: Volumes,
+    sums: K4,
+    control: Control,
+) -> [u64; 10]
+    requires { ⌜ (layout .header .days ≤ 31) × (at ≡ producerAt layout p) × (at ≤ 20000000) ⌝ }
+    requires { ⌜ (v ≡ volumesOf (monthUnder layout (now s)) p) × (v .support .0 ≤ mostVolume) ⌝ }
+    requires { ⌜ (sums ≡ k4Of (layout .header) (monthUnder layout (now s) .producer p) (summedCapacity (monthUnder layout (now s)) p))
+        × (sums .met .0 ≤ 4294967295 * hours (layout .header)) ⌝ }
+    requires { ⌜ (control ≡ controlOf (layout .header) (monthUnder layout (now s) .producer p .outsideUse))
         × (control .counted .0 ≤ 4294967295 * control .count) ⌝ }
-    ensures { λ r. ⌜ r ≡ coefficients (monthUnder h (now (s .entry))) p ⌝ }
+    ensures { λ r. ⌜ r ≡ coefficients (monthUnder layout (now (s .entry))) p ⌝ }
 {
-    let hours = 24 * (h.days as u32);
+    let hours = 24 * (layout.header.days as u32);
     [
         k1_of(control, word(s, at + 4), v.support),
         bids(hours, half(s, at + 12), half(s, at + 14)),
@@ -125,50 +133,50 @@ fn excess_of(summed: Tenths, own: u32, attested: u32) -> Tenths
 }
 
 // Producer p's excess and coefficients, before the first row.
-fn terms_of(s: &[u8], h: Header, p: u8, v: Volumes) -> Terms
-    requires { ⌜ (h .days ≤ 31) × (hourAt h p 0 + hoursWidth h ≤ length (now s)) ⌝ }
-    requires { ⌜ (v ≡ volumesOf (monthUnder h (now s)) p) × Fits v ⌝ }
-    ensures { λ r. ⌜ r ≡ termsAt (monthUnder h (now (s .entry))) p 0 ⌝ }
+fn terms_of(s: &[u8], layout: Layout, p: u8, v: Volumes) -> Terms
+    requires { ⌜ (layout .header .days ≤ 31) × (hourAt layout p 0 + hoursWidth (layout .header) ≤ length (now s)) ⌝ }
+    requires { ⌜ (v ≡ volumesOf (monthUnder layout (now s)) p) × Fits v ⌝ }
+    ensures { λ r. ⌜ r ≡ termsAt (monthUnder layout (now (s .entry))) p 0 ⌝ }
 {
-    let at = producer_at(h, p);
+    let at = producer_at(layout, p);
     let summed = summed_of(v, word(s, at + 4));
     let excess = excess_of(summed, word(s, at + 8), word(s, at));
-    let sums = k4_sums(s, h, p, summed);
-    let control = control_hours(s, h, p);
-    let ks = ks_of(s, h, p, at, v, sums, control);
+    let sums = k4_sums(s, layout, p, summed);
+    let control = control_hours(s, layout, p);
+    let ks = ks_of(s, layout, p, at, v, sums, control);
     Terms { excess, ks }
 }
 
 // How many producers of a sheet have terms: at most six, and none in a month of more than 31 days or in a sheet that ends too soon.
-fn with_terms(s: &[u8], h: Header) -> u8
-    ensures { λ r. ⌜ (r ≡ withTerms h (now (s .entry))) × (r ≤ 6)
-        × (0 < r → (h .days ≤ 31) × (r ≤ h .producers) × (sheetLength h ≤ length (now (s .entry)))) ⌝ }
+fn with_terms(s: &[u8], layout: Layout) -> u8
+    ensures { λ r. ⌜ (r ≡ withTerms layout (now (s .entry))) × (r ≤ 6)
+        × (0 < r → (layout .header .days ≤ 31) × (r ≤ layout .header .producers) × (sheetLength layout ≤ length (now (s .entry)))) ⌝ }
 {
-    if (31 < h.days) | (s.len() < sheet_length(h)) {
+    if (31 < layout.header.days) | (s.len() < sheet_length(layout)) {
         0
-    } else if h.producers < 6 {
-        h.producers
+    } else if layout.header.producers < 6 {
+        layout.header.producers
     } else {
         6
     }
 }
 
 // The excess and the coefficients of six producers, before the first row.
-pub fn all_terms(s: &[u8], h: Header) -> AllTerms
-    ensures { λ r. ⌜ Agrees 6 noTerms (termsOf h (now (s .entry))) (r .of) ⌝ }
+pub fn all_terms(s: &[u8], layout: Layout) -> AllTerms
+    ensures { λ r. ⌜ Agrees 6 noTerms (termsOf layout (now (s .entry))) (r .of) ⌝ }
 {
     let none = Terms {
         excess: Tenths(0),
         ks: [0; 10],
     };
     let mut of = [none; 6];
-    let volumes = row_volumes(s, h);
-    let n = with_terms(s, h);
+    let volumes = row_volumes(s, layout);
+    let n = with_terms(s, layout);
     let mut p: u8 = 0;
     while p < n {
         let i = p as usize;
         let v = volumes.of[i];
-        of[i] = terms_of(s, h, p, v);
+        of[i] = terms_of(s, layout, p, v);
         p += 1;
     }
     AllTerms { of }

@@ -9,10 +9,10 @@ use Rattle.month.proofs.settle_month.Statement.{statement}
 use Rattle.month.proofs.settle_month.Tie as tie
 
 -- None of 4 to 6 applies; nor does 7.
-form-none : (c : tie.Else1) → firstOf (headerTests (c .before .before .before .before .args .h) (length (c .before .before .before .before .args .s .now))) ≡ 0
+form-none : (c : tie.Else1) → firstOf (headerTests (c .before .before .before .before .args .layout) (length (c .before .before .before .before .args .s .now))) ≡ 0
 form-none c = sym (c .before .header-refusal .ensures) ∙ c .if1 .left
 
-room-none : (c : tie.Else2) → firstOf (roomTests (c .before .before .before .before .before .before .args .h) (length (c .before .before .before .before .before .before .args .out .now))) ≡ 0
+room-none : (c : tie.Else2) → firstOf (roomTests (c .before .before .before .before .before .before .args .layout .header) (length (c .before .before .before .before .before .before .args .out .now))) ≡ 0
 room-none c = sym (c .before .room-refusal .ensures) ∙ c .if2 .left
 
 header-refusal-requires : tie.Need-header-refusal-requires
@@ -45,7 +45,7 @@ write-result-requires c κs =
     let form = form-none (r .before .before) in
     let a = r .before .before .before .before .before .before .args in
     let figures = sym (c .before .before .figure-refusal .ensures) ∙ c .before .if3 .left in
-    ((month-limits (monthUnder (a .h) (a .s .now)) (within _ _ form) figures, whole _ _ form), enough-room _ _ (room-none r))
+    ((month-limits (monthUnder (a .layout) (a .s .now)) (within _ _ form) figures, whole _ _ form), enough-room _ _ (room-none r))
 
 same-length : tie.Need-same-length
 same-length c = search needs
@@ -56,7 +56,7 @@ returns-4 c =
     let r = e .before .before in
     let a = r .before .before .before .before .before .before .args in
     let figures = sym (e .before .figure-refusal .ensures) ∙ e .if3 .left in
-    written (a .h) (a .s .now) (a .out .now) _ (sym (figures-next _ _ _ (form-none (r .before .before)) (room-none r)) ∙ figures) (c .before .before .write-result .ensures)
+    written (a .layout) (a .s .now) (a .out .now) _ (sym (figures-next _ _ _ (form-none (r .before .before)) (room-none r)) ∙ figures) (c .before .before .write-result .ensures)
 
 pub settle-month-spec : {M : Type 1} → statement M
 settle-month-spec =

@@ -12,8 +12,8 @@ returns c =
     let e = c .before .front-refusal .ensures in
     turned-down _ _ _ (e ∙ front-stands _ _ (λ z. c .if1 .taken (e ∙ z))) (c .if1 .taken)
 
-header-requires : tie.Need-header-requires
-header-requires c κs = search needs
+layout-requires : tie.Need-layout-requires
+layout-requires c κs = search needs
 
 settle-month-requires : tie.Need-settle-month-requires
 settle-month-requires c κs = search needs
@@ -25,7 +25,7 @@ returns-2 : tie.Need-returns-2
 returns-2 c =
     let front = sym (c .before .before .before .before .before .before .before .front-refusal .ensures) ∙ c .before .before .before .before .before .before .if1 .left in
     let m = c .before .before .before .settle-month .ensures in
-    refused-then _ _ _ (c .before .before .before .before .before .header .ensures) front _ (m .0) (c .if2 .taken) (m .1)
+    refused-then _ _ _ (c .before .before .before .before .before .layout .ensures) front _ (m .0) (c .if2 .taken) (m .1)
 
 result-length-requires : tie.Need-result-length-requires
 result-length-requires c κs = search needs
@@ -37,7 +37,7 @@ returns-3 : tie.Need-returns-3
 returns-3 c =
     let front = sym (c .before .before .before .before .before .before .before .before .front-refusal .ensures) ∙ c .before .before .before .before .before .before .before .if1 .left in
     let m = c .before .before .before .before .settle-month .ensures in
-    settled-then _ _ _ (c .before .before .before .before .before .before .header .ensures) front _ (m .0) (c .before .if2 .left) (c .result-length .ensures) (m .1)
+    settled-then _ _ _ (c .before .before .before .before .before .before .layout .ensures) front _ (m .0) (c .before .if2 .left) (c .result-length .ensures) (m .1)
 
 pub settle-spec : {M : Type 1} → statement M
 settle-spec =
@@ -45,7 +45,7 @@ settle-spec =
     (tie.spec
     front-refusal-requires
     returns
-    header-requires
+    layout-requires
     settle-month-requires
     same-length
     returns-2

@@ -12,16 +12,16 @@ use Rattle.terms.proofs.all_terms.Statement.{statement}
 use Rattle.terms.proofs.all_terms.Tie as tie
 
 abbrev Inv-loop : tie.InvT-loop
-Inv-loop s h of₀ volumes n p₀ of p =
-    Known (monthUnder h s) 0 p of
+Inv-loop s layout of₀ volumes n p₀ of p =
+    Known (monthUnder layout s) 0 p of
     × (p ≤ n)
-    × VolumesKnown (monthUnder h s) (volumes .of)
-    × (n ≡ withTerms h s)
+    × VolumesKnown (monthUnder layout s) (volumes .of)
+    × (n ≡ withTerms layout s)
     × (n ≤ 6)
-    × (0 < n → (h .days ≤ 31) × (n ≤ h .producers) × (sheetLength h ≤ length s))
+    × (0 < n → (layout .header .days ≤ 31) × (n ≤ layout .header .producers) × (sheetLength layout ≤ length s))
 
 abbrev μ-loop : tie.MeasureT-loop
-μ-loop s h of₀ volumes n p₀ of p = n - p
+μ-loop s layout of₀ volumes n p₀ of p = n - p
 
 row-volumes-requires : tie.Need-row-volumes-requires Inv-loop μ-loop
 row-volumes-requires c κs = search needs
@@ -48,7 +48,7 @@ terms-of-requires c κs =
     let inv = c .before .before .loop .inv in
     let some = inv .5 (omega arith) in
     let p : c .before .before .loop .p < 6 = omega arith in
-    let h = c .before .before .before .before .before .before .args .h in (
+    let h = c .before .before .before .before .before .before .args .layout in (
       (some .0, le-trans (hours-inside h (c .before .before .loop .p) (omega (arith, some .1))) (some .2)),
       (inv .2 .0 .each _ p, inv .2 .1 _ p),
     )
@@ -73,7 +73,7 @@ loop-again c =
 returns : tie.Need-returns Inv-loop μ-loop
 returns c =
     let inv = c .before .loop .inv in
-    let end : c .before .loop .p ≡ withTerms (c .before .before .before .before .before .args .h) (c .before .before .before .before .before .args .s .now) = omega arith in
+    let end : c .before .loop .p ≡ withTerms (c .before .before .before .before .before .args .layout) (c .before .before .before .before .before .args .s .now) = omega arith in
     rw end at (inv .0)
 
 pub all-terms-spec : {M : Type 1} → statement M

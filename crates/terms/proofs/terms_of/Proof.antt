@@ -44,11 +44,11 @@ control-hours-requires : tie.Need-control-hours-requires
 control-hours-requires c κs = search needs
 
 -- S is the definitions'.
-summed : (c : tie.After-summed-of) → c .summed-of .result .0 ≡ summedCapacity (monthUnder (c .before .before .before .before .args .h) (c .before .before .before .before .args .s .now)) (c .before .before .before .before .args .p)
+summed : (c : tie.After-summed-of) → c .summed-of .result .0 ≡ summedCapacity (monthUnder (c .before .before .before .before .args .layout) (c .before .before .before .before .args .s .now)) (c .before .before .before .before .args .p)
 summed c =
     let a = c .before .before .before .before in
     let d = c .before .word .ensures ∙ ap (λ (x : ℕ). bigEndian 4 (a .args .s .now) (x + 4)) (c .before .before .producer-at .ensures .0) in
-    c .summed-of .ensures ∙ summed-is (monthUnder (a .args .h) (a .args .s .now)) (a .args .p) (a .args .v) _ (a .pre .1 .0) d
+    c .summed-of .ensures ∙ summed-is (monthUnder (a .args .layout) (a .args .s .now)) (a .args .p) (a .args .v) _ (a .pre .1 .0) d
 
 abbrev summing : tie.After-control-hours → tie.After-summed-of
 summing c = c .before .before .before .before .before
@@ -57,7 +57,7 @@ ks-of-requires : tie.Need-ks-of-requires
 ks-of-requires c κs =
     let u = summing c in
     let a = u .before .before .before .before in
-    let m = monthUnder (a .args .h) (a .args .s .now) in
+    let m = monthUnder (a .args .layout) (a .args .s .now) in
     let at = u .before .before .producer-at .ensures in
     let v = a .pre .1 in
     let sums = c .before .k4-sums .ensures in
@@ -67,10 +67,10 @@ ks-of-requires c κs =
         (v .0, v .1 .0),
         (
           (
-            sums .0 ∙ k4-inside (a .args .h) (a .args .s .now) (a .args .p) _ (a .pre .0 .1) ∙ ap (k4Of (a .args .h) (m .producer (a .args .p))) (summed u),
+            sums .0 ∙ k4-inside (a .args .layout) (a .args .s .now) (a .args .p) _ (a .pre .0 .1) ∙ ap (k4Of (a .args .layout .header) (m .producer (a .args .p))) (summed u),
             sums .1 .1,
           ),
-          (control .0 ∙ control-inside (a .args .h) (a .args .s .now) (a .args .p) (a .pre .0 .1), control .1),
+          (control .0 ∙ control-inside (a .args .layout) (a .args .s .now) (a .args .p) (a .pre .0 .1), control .1),
         ),
       ),
     )

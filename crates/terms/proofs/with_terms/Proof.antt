@@ -21,7 +21,7 @@ unfolding withTerms
 returns-2 c =
     let none = rw (c .before .before .before .sheet-length .ensures) at (c .before .before .if1 .left) in
     let days = ltb-false _ _ (or-left _ _ none) in
-    let whole = ltb-false _ _ (or-right (ltb 31 (c .before .before .before .before .before .before .args .h .days)) _ none) in
+    let whole = ltb-false _ _ (or-right (ltb 31 (c .before .before .before .before .before .before .args .layout .header .days)) _ none) in
     (rw none (omega arith), omega arith, λ l. (days, omega arith, whole))
 
 returns-3 : tie.Need-returns-3
@@ -29,7 +29,7 @@ unfolding withTerms
 returns-3 c =
     let none = rw (c .before .before .before .sheet-length .ensures) at (c .before .before .if1 .left) in
     let days = ltb-false _ _ (or-left _ _ none) in
-    let whole = ltb-false _ _ (or-right (ltb 31 (c .before .before .before .before .before .before .args .h .days)) _ none) in
+    let whole = ltb-false _ _ (or-right (ltb 31 (c .before .before .before .before .before .before .args .layout .header .days)) _ none) in
     (rw none (omega arith), omega arith, λ l. (days, omega arith, whole))
 
 pub with-terms-spec : {M : Type 1} → statement M
