@@ -1,2 +1,2 @@
-pub mod Bits
-pub mod Days
+pub mod Told
+pub mod Powers

@@ -1,1 +1,2 @@
-pub mod High
+pub mod Powers
+pub mod Marks

@@ -124,7 +124,7 @@ unfolding any
 any-same f g zero h = refl
 any-same f g (suc n) h = rw (any-same f g n (λ i l. h i (omega arith)), h n (omega arith))
 
-or-swap : (a b x y : Bool) → ((a || b) || (x || y)) ≡ ((a || x) || (b || y))
+pub or-swap : (a b x y : Bool) → ((a || b) || (x || y)) ≡ ((a || x) || (b || y))
 or-swap true b x y = refl
 or-swap false true x y = sym (or-true x)
 or-swap false false x y = refl
@@ -133,3 +133,13 @@ pub any-or : (f g : ℕ → Bool) (n : ℕ) → any (λ i. f i || g i) n ≡ (an
 unfolding any
 any-or f g zero = refl
 any-or f g (suc n) = ap (λ (b : Bool). b || (f n || g n)) (any-or f g n) ∙ or-swap (any f n) (any g n) (f n) (g n)
+
+-- A test of three places in one is one over three times as many places.
+pub any-threes : (f : ℕ → Bool) (n : ℕ) → any (λ i. f (3 * i) || (f (3 * i + 1) || f (3 * i + 2))) n ≡ any f (3 * n)
+unfolding any
+any-threes f zero = refl
+any-threes f (suc n) =
+    let next : 3 * suc n ≡ suc (suc (suc (3 * n))) = omega arith in
+    let one : 3 * n + 1 ≡ suc (3 * n) = omega arith in
+    let two : 3 * n + 2 ≡ suc (suc (3 * n)) = omega arith in
+    rw (next, one, two, any-threes f n) (simp or-assoc)

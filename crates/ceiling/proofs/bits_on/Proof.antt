@@ -1,27 +1,30 @@
 use native.Mathlib.Omega.{arith}
 use mathlib.Core.Path.{_≡_}
-use Prim.Native.Nat.{ℕ, _-_, _%_, _<_, _≤_, zero-le}
-use Rattle.ceiling.proofs.Bits.{Low, or-last, low-more}
+use mathlib.Core.Bool.{false}
+use Prim.Native.Nat.{_-_, _%_, _≤_, zero-le}
+use Rattle.laws.proofs.Range.{any-start, any-more, any-end}
+use Rattle.ceiling.specs.Powers.{highFrom}
+use Rattle.ceiling.proofs.Told.{or-last, low-told}
 use Rattle.ceiling.proofs.bits_on.Statement.{statement}
 use Rattle.ceiling.proofs.bits_on.Tie as tie
 
 abbrev Inv-loop : tie.InvT-loop
-Inv-loop s at bits₀ i₀ bits i = (bits % 65536 ≡ 0 → (k : ℕ) → k < i → Low s at k) × (i ≤ 72)
+Inv-loop s at bits₀ i₀ bits i = (bits % 65536 ≡ 0 → highFrom s at i ≡ false) × (i ≤ 72)
 
 abbrev μ-loop : tie.MeasureT-loop
 μ-loop s at bits₀ i₀ bits i = 72 - i
 
 loop-holds : tie.Need-loop-holds Inv-loop μ-loop
-loop-holds c = (λ e k l. absurd (omega arith), zero-le)
+loop-holds c = (λ e. any-start _, zero-le)
 
 mul-turned : tie.Need-mul-turned Inv-loop μ-loop
 mul-turned c = omega arith
 
 add-turned : tie.Need-add-turned Inv-loop μ-loop
-add-turned c = omega (arith, c .before .before .before .pre .1)
+add-turned c = omega (arith, c .before .before .before .pre)
 
 turned-requires : tie.Need-turned-requires Inv-loop μ-loop
-turned-requires c κs = omega (arith, c .before .before .before .pre .0)
+turned-requires c κs = omega (arith, c .before .before .before .pre)
 
 add-i : tie.Need-add-i Inv-loop μ-loop
 add-i c = omega arith
@@ -31,14 +34,12 @@ loop-less c = omega arith
 
 loop-again : tie.Need-loop-again Inv-loop μ-loop
 loop-again c = (
-  λ e.
-      let both = or-last _ _ e in
-      low-more _ _ (c .before .before .loop .inv .0 (both .0)) (c .turned .ensures (both .1)),
+  λ e. let both = or-last _ _ e in any-more _ _ (c .before .before .loop .inv .0 (both .0)) (low-told _ _ (c .turned .ensures) (both .1)),
   omega arith,
 )
 
 returns : tie.Need-returns Inv-loop μ-loop
-returns c e i l = c .before .loop .inv .0 e i (omega arith)
+returns c e = any-end _ (omega arith) (omega arith) (c .before .loop .inv .0 e)
 
 pub bits-on-spec : {M : Type 1} → statement M
 bits-on-spec =

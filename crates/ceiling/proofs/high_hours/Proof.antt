@@ -1,48 +1,62 @@
 use borrow.Author.Needs.{needs}
 use native.Mathlib.Omega.{arith}
-use mathlib.Core.Path.{_≡_, sym}
-use Prim.Native.Nat.{_-_, _*_, _≤_, zero-le}
-use Rattle.laws.proofs.Range.{any-start, any-done}
-use Rattle.rules.specs.Range.{any}
-use Rattle.rules.specs.Sheet.{monthUnder}
-use Rattle.rules.specs.Refusals.{highHour}
-use Rattle.ceiling.proofs.Days.{day-more}
+use Rattle.ceiling.proofs.Powers.{hours-high, hours-lent}
 use Rattle.ceiling.proofs.high_hours.Statement.{statement}
 use Rattle.ceiling.proofs.high_hours.Tie as tie
 
-abbrev Inv-loop : tie.InvT-loop
-Inv-loop s layout p found₀ day₀ found day = (found ≡ any (highHour (monthUnder layout s .producer p)) (24 * day)) × (day ≤ layout .header .days)
+hours-at-requires : tie.Need-hours-at-requires
+hours-at-requires c κs = search needs
 
-abbrev μ-loop : tie.MeasureT-loop
-μ-loop s layout p found₀ day₀ found day = layout .header .days - day
+cast-end : tie.Need-cast-end
+cast-end c = search needs
 
-loop-holds : tie.Need-loop-holds Inv-loop μ-loop
-loop-holds c = (sym (any-start _), zero-le)
+mul-end : tie.Need-mul-end
+mul-end c = search needs
 
-high-on-requires : tie.Need-high-on-requires Inv-loop μ-loop
-high-on-requires c κs = search needs
+add-end : tie.Need-add-end
+add-end c = search needs
 
-add-day : tie.Need-add-day Inv-loop μ-loop
-add-day c = omega arith
+cast-one-by-one : tie.Need-cast-one-by-one
+cast-one-by-one c = search needs
 
-loop-less : tie.Need-loop-less Inv-loop μ-loop
-loop-less c = omega arith
+mul-one-by-one : tie.Need-mul-one-by-one
+mul-one-by-one c = search needs
 
-loop-again : tie.Need-loop-again Inv-loop μ-loop
-loop-again c = (day-more _ _ (c .before .before .before .loop .inv .0) (c .high-on .ensures), omega arith)
+one-by-one-requires : tie.Need-one-by-one-requires
+one-by-one-requires c κs = search needs
 
-returns : tie.Need-returns Inv-loop μ-loop
-returns c = any-done _ (omega arith) (omega arith) (c .before .before .loop .inv .0)
+returns : tie.Need-returns
+returns c = hours-high _ _ _ _ _ (c .before .before .before .before .hours-at .ensures .0) (omega arith) (c .one-by-one .ensures)
+
+sub-high-powers : tie.Need-sub-high-powers
+sub-high-powers c = search needs
+
+part-high-powers-start : tie.Need-part-high-powers-start
+part-high-powers-start c = search needs
+
+part-high-powers-end : tie.Need-part-high-powers-end
+part-high-powers-end c = search needs
+
+high-powers-requires : tie.Need-high-powers-requires
+high-powers-requires c κs = search needs
+
+returns-2 : tie.Need-returns-2
+returns-2 c = hours-lent _ _ _ _ (c .before .before .before .before .hours-at .ensures .0) (omega (arith, c .before .before .if1 .left)) (c .high-powers .ensures)
 
 pub high-hours-spec : {M : Type 1} → statement M
 high-hours-spec =
     tie.close
     (tie.spec
-    Inv-loop
-    μ-loop
-    loop-holds
-    high-on-requires
-    add-day
-    loop-less
-    loop-again
-    returns)
+    hours-at-requires
+    cast-end
+    mul-end
+    add-end
+    cast-one-by-one
+    mul-one-by-one
+    one-by-one-requires
+    returns
+    sub-high-powers
+    part-high-powers-start
+    part-high-powers-end
+    high-powers-requires
+    returns-2)

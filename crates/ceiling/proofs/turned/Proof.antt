@@ -1,8 +1,8 @@
+use borrow.Author.Needs.{needs}
 use native.Mathlib.Omega.{arith}
 use native.Mathlib.Nat.{add-zero}
 use Rattle.rules.specs.Fields.{bigEndian}
-use Rattle.ceiling.proofs.Bits.{front-none}
-use borrow.Author.Needs.{needs}
+use mathlib.Core.Path.{refl}
 use Rattle.ceiling.proofs.turned.Statement.{statement}
 use Rattle.ceiling.proofs.turned.Tie as tie
 
@@ -59,9 +59,23 @@ add-result-3 c = search needs
 
 returns : tie.Need-returns
 unfolding bigEndian
-returns c e =
-    let none = front-none _ _ _ _ (c .before .before .before .before .before .before .wide .ensures .1) (c .before .before .before .before .wide2 .ensures .1) e in
-    simp add-zero (omega (arith, none .0, none .1))
+returns c =
+    let a = c .before .before .before .before .before .before .wide in
+    let b = c .before .before .before .before .wide2 in
+    let x = c .before .before .wide3 in
+    let y = c .wide4 in
+    record {
+      first = a .result;
+      second = b .result;
+      third = x .result;
+      last = y .result;
+      first-fits = a .ensures .1;
+      second-fits = b .ensures .1;
+      third-fits = x .ensures .1;
+      last-fits = y .ensures .1;
+      is-power = simp add-zero (omega (arith, a .ensures .0, b .ensures .0, x .ensures .0, y .ensures .0));
+      is-word = refl;
+    }
 
 pub turned-spec : {M : Type 1} → statement M
 turned-spec =
