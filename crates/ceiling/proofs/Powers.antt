@@ -21,8 +21,8 @@ there : (s : List ℕ) {a b : ℕ} → a ≡ b → tooHigh (bigEndian 4 s a) ≡
 there s e = ap (λ (at : ℕ). tooHigh (bigEndian 4 s at)) e
 
 -- The first k powers and the n after them.
-pub powers-more : (s : List ℕ) (k n at m : ℕ) {found t : Bool} → at ≡ 4 * k → k + n ≡ m → found ≡ any (highPower s) k → t ≡ highFrom s at n
-    → (found || t) ≡ any (highPower s) m
+pub powers-more : (s : List ℕ) (k n at m : ℕ) {found t : Bool} → at ≡ 4 * k → k + n ≡ m
+    → found ≡ any (highPower s) k → t ≡ highFrom s at n → (found || t) ≡ any (highPower s) m
 powers-more s k n at m e q x y =
     let same : highFrom s at n ≡ any (λ i. highPower s (k + i)) n = any-same _ _ n (λ i l. there s (omega arith)) in
     rw (x, y, same, ← q) (sym (any-append (highPower s) k n))
@@ -39,8 +39,8 @@ hour-high s h p i at e =
     let o : at + 4 * (3 * i + 2) ≡ at + 12 * i + 8 = omega arith in
     rw (hour-there h p i e, or-false, there s w, there s q, there s o)
 
-pub hours-high : (s : List ℕ) (h : Header) (p at count : ℕ) {r : Bool} → at ≡ hourAt h p 0 → count ≡ 72 * h .days → r ≡ highFrom s at count
-    → r ≡ any (highHour (monthUnder h s .producer p)) (hours h)
+pub hours-high : (s : List ℕ) (h : Header) (p at count : ℕ) {r : Bool} → at ≡ hourAt h p 0 → count ≡ 72 * h .days
+    → r ≡ highFrom s at count → r ≡ any (highHour (monthUnder h s .producer p)) (hours h)
 hours-high s h p at count e n q =
     let all : count ≡ 3 * (24 * h .days) = omega arith in
     q
