@@ -17,6 +17,7 @@ sys.dont_write_bytecode = True
 
 import accepted
 import bands
+import powers
 import programs
 import refused
 import ties
@@ -54,6 +55,7 @@ GROUPS = {
     "zero_counts": {**accepted.ZERO_COUNTS, "rows_without_producers": refused.rows_without_producers},
     "months": accepted.MONTHS,
     "ceilings": accepted.CEILINGS,
+    "powers": powers.POWERS,
     "cut": accepted.CUT,
     "credits": accepted.CREDITS,
     "largest": accepted.LARGEST,
@@ -65,8 +67,8 @@ GROUPS = {
 # Cases of each group in a hundred.
 SHARES = {
     "checked_months": 1, "slips": 4, "several_rules": 8, "bands_of_k1": 10, "bands_of_consumers": 8, "ties": 10,
-    "zero_counts": 3, "months": 8, "ceilings": 4, "cut": 5, "credits": 5, "largest": 2, "damaged": 6, "buffers": 4,
-    "ordinary": 10, **{f"refusal_{number}": 1 for number in range(1, 13)},
+    "zero_counts": 3, "months": 8, "ceilings": 4, "powers": 4, "cut": 5, "credits": 5, "largest": 2, "damaged": 6,
+    "buffers": 4, "ordinary": 6, **{f"refusal_{number}": 1 for number in range(1, 13)},
 }
 
 
@@ -131,6 +133,8 @@ def intended_refusal(kind):
         return int(corner.split("_")[0])
     if group == "damaged":
         return None
+    if group == "powers":
+        return 9 if powers.is_above(corner) else 0
     if corner == "rows_without_producers":
         return 10
     if group == "buffers" and corner in ("none", "shorter", "shorter_by_one"):

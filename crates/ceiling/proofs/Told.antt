@@ -47,22 +47,24 @@ or-last a b e =
     let sum = or-add-and (a % 65536) (b % 65536) in
     (omega (arith, and-le-r (a % 65536) (b % 65536)), omega (arith, and-le-l (a % 65536) (b % 65536)))
 
--- Three numbers of which one is not 0 just where a fourth is above the ceiling.
-three-told : (p q r x : ℕ) → (x ≤ 100000 → (p ≡ 0) × (q ≡ 0) × (r ≡ 0)) → (100000 < x → p ≡ 0 → q ≡ 0 → 0 < r)
-    → (t : Bool) → ltb 100000 x ≡ t → (ltb 0 p || (ltb 0 q || ltb 0 r)) ≡ t
-three-told p q r x low high false e =
-    let none = low (ltb-false 100000 x e) in
-    rw (le-ltb 0 p (omega arith), le-ltb 0 q (omega arith), le-ltb 0 r (omega arith))
-three-told (suc p) q r x low high true e = rw (lt-ltb 0 (suc p) (omega arith))
-three-told zero (suc q) r x low high true e = rw (lt-ltb 0 (suc q) (omega arith))
-three-told zero zero r x low high true e = lt-ltb 0 r (high (ltb-true 100000 x e) refl refl)
+-- Of three numbers one is not 0 just where a fourth is above the ceiling.
+abbrev Tell : ℕ → ℕ → ℕ → ℕ → Type 0
+Tell p q r x = (x ≤ 100000 → (p ≡ 0) × (q ≡ 0) × (r ≡ 0)) × (100000 < x → p ≡ 0 → q ≡ 0 → 0 < r)
 
--- Bytes a, b, c, d of a power x, whose last two are above the ceiling's or are not.
+three-told : (p q r x : ℕ) → Tell p q r x → (t : Bool) → ltb 100000 x ≡ t → (ltb 0 p || (ltb 0 q || ltb 0 r)) ≡ t
+three-told p q r x h false e =
+    let none = h .0 (ltb-false 100000 x e) in
+    rw (le-ltb 0 p (omega arith), le-ltb 0 q (omega arith), le-ltb 0 r (omega arith))
+three-told (suc p) q r x h true e = rw (lt-ltb 0 (suc p) (omega arith))
+three-told zero (suc q) r x h true e = rw (lt-ltb 0 (suc q) (omega arith))
+three-told zero zero r x h true e = lt-ltb 0 r (h .1 (ltb-true 100000 x e) refl refl)
+
+-- The bytes a, b, c, d of a power x, the last two above the ceiling's or not.
 module _ (a b c d x : ℕ) (lc : c ≤ 255) (ld : d ≤ 255) (is : x ≡ a * 16777216 + b * 65536 + c * 256 + d) where
-  above-bytes : 8823296 ≤ a + c + 256 * (b + c * 256 + d) → (x ≤ 100000 → (a ≡ 0) × (b / 2 ≡ 0) × (b % 2 ≡ 0)) × (100000 < x → a ≡ 0 → b / 2 ≡ 0 → 0 < b % 2)
+  above-bytes : 8823296 ≤ a + c + 256 * (b + c * 256 + d) → Tell a (b / 2) (b % 2) x
   above-bytes h = omega arith
 
-  below-bytes : a + c + 256 * (b + c * 256 + d) < 8823296 → (x ≤ 100000 → (a ≡ 0) × (b / 2 ≡ 0) × (_≡_ {A = ℕ} 0 0)) × (100000 < x → a ≡ 0 → b / 2 ≡ 0 → 0 < 0)
+  below-bytes : a + c + 256 * (b + c * 256 + d) < 8823296 → Tell a (b / 2) 0 x
   below-bytes h = omega arith
 
 second-half : (a b c : ℕ) → a ≤ 255 → b ≤ 255 → (a + b * 256 + c * 65536) / 512 % 128 ≡ b / 2
@@ -98,11 +100,11 @@ module _ (x w : ℕ) (t : Turned x w) where
   pub above-told : 8823296 ≤ w % 16777216 + w / 65536 → marked (record { front = w % 16777216; above = w % 16777216 }) ≡ tooHigh x
   unfolding marked tooHigh
   above-told h =
-      let facts = above-bytes (t .first) (t .second) (t .third) (t .last) x (t .third-fits) (t .last-fits) (t .is-power) (rw sum-of at h) in
-      rw (first-of, second-of, odd-of) (three-told (t .first) (t .second / 2) (t .second % 2) x (facts .0) (facts .1) (ltb 100000 x) refl)
+      let tell = above-bytes (t .first) (t .second) (t .third) (t .last) x (t .third-fits) (t .last-fits) (t .is-power) (rw sum-of at h) in
+      rw (first-of, second-of, odd-of) (three-told (t .first) (t .second / 2) (t .second % 2) x tell (ltb 100000 x) refl)
 
   pub below-told : w % 16777216 + w / 65536 < 8823296 → marked (record { front = w % 16777216; above = 0 }) ≡ tooHigh x
   unfolding marked tooHigh
   below-told h =
-      let facts = below-bytes (t .first) (t .second) (t .third) (t .last) x (t .third-fits) (t .last-fits) (t .is-power) (rw sum-of at h) in
-      rw (first-of, second-of) (three-told (t .first) (t .second / 2) 0 x (facts .0) (facts .1) (ltb 100000 x) refl)
+      let tell = below-bytes (t .first) (t .second) (t .third) (t .last) x (t .third-fits) (t .last-fits) (t .is-power) (rw sum-of at h) in
+      rw (first-of, second-of) (three-told (t .first) (t .second / 2) 0 x tell (ltb 100000 x) refl)

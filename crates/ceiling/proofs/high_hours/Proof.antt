@@ -41,7 +41,8 @@ high-powers-requires : tie.Need-high-powers-requires
 high-powers-requires c κs = search needs
 
 returns-2 : tie.Need-returns-2
-returns-2 c = hours-lent _ _ _ _ (c .before .before .before .before .hours-at .ensures .0) (omega (arith, c .before .before .if1 .left)) (c .high-powers .ensures)
+returns-2 c =
+    hours-lent _ _ _ _ (c .before .before .before .before .hours-at .ensures .0) (omega (arith, c .before .before .if1 .left)) (c .high-powers .ensures)
 
 pub high-hours-spec : {M : Type 1} → statement M
 high-hours-spec =
