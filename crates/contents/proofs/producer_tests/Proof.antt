@@ -1,47 +1,53 @@
-use native.Mathlib.Omega.{arith}
-use borrow.Author.Needs.{needs}
-use mathlib.Core.Path.{_≡_, sym}
-use Prim.Native.Nat.{_-_, _≤_, zero-le}
-use Rattle.rules.specs.Range.{any}
-use Rattle.rules.specs.Sheet.{monthUnder}
-use Rattle.laws.proofs.Range.{any-start, any-fold, any-done}
-use Rattle.rules.specs.Refusals.{badShare, highProducer}
 use Rattle.contents.proofs.producer_tests.Statement.{statement}
 use Rattle.contents.proofs.producer_tests.Tie as tie
+use Rattle.contents.proofs.producer_tests.Reads as reads
+use Rattle.contents.proofs.producer_tests.Lts as lts
+use Rattle.ceiling.proofs.high_hours.Reads as high-hours-reads
+use Rattle.limits.proofs.bad_share.Reads as bad-share-reads
+use Rattle.limits.proofs.high_stated.Reads as high-stated-reads
+use Rattle.sheet.proofs.producer.Reads as producer-reads
 
 abbrev Inv-loop : tie.InvT-loop
-Inv-loop s layout share₀ high₀ p₀ share high p =
-    (share ≡ any (λ i. badShare (layout .header) (monthUnder layout s .producer i)) p)
-    × (high ≡ any (λ i. highProducer (layout .header) (monthUnder layout s .producer i)) p)
-    × (p ≤ layout .header .producers)
+Inv-loop s layout share₀ high₀ p₀ share high p = ?
 
 abbrev μ-loop : tie.MeasureT-loop
-μ-loop s layout share₀ high₀ p₀ share high p = layout .header .producers - p
+μ-loop s layout share₀ high₀ p₀ share high p = ?
 
+-- src/lib.rt:48:5
 loop-holds : tie.Need-loop-holds Inv-loop μ-loop
-loop-holds c = (sym (any-start _), sym (any-start _), zero-le)
+loop-holds c = ?
 
+-- src/lib.rt:49:13
+producer-requires : tie.Need-producer-requires Inv-loop μ-loop
+producer-requires c κs = ?
+
+-- src/lib.rt:50:25
 bad-share-requires : tie.Need-bad-share-requires Inv-loop μ-loop
-bad-share-requires c κs = search needs
+bad-share-requires c κs = ?
 
-high-producer-requires : tie.Need-high-producer-requires Inv-loop μ-loop
-high-producer-requires c κs = search needs
+-- src/lib.rt:51:24
+high-stated-requires : tie.Need-high-stated-requires Inv-loop μ-loop
+high-stated-requires c κs = ?
 
+-- src/lib.rt:51:41
+high-hours-requires : tie.Need-high-hours-requires Inv-loop μ-loop
+high-hours-requires c κs = ?
+
+-- src/lib.rt:52:9
 add-p : tie.Need-add-p Inv-loop μ-loop
-add-p c = omega arith
+add-p c = ?
 
+-- src/lib.rt:48:5
 loop-less : tie.Need-loop-less Inv-loop μ-loop
-loop-less c = omega arith
+loop-less c = ?
 
+-- src/lib.rt:48:5
 loop-again : tie.Need-loop-again Inv-loop μ-loop
-loop-again c = (any-fold _ _ (c .before .before .before .before .loop .inv .0) (c .before .bad-share .ensures), any-fold _ _ (c .before .before .before .before .loop .inv .1) (c .high-producer .ensures), omega arith)
+loop-again c = ?
 
+-- src/lib.rt:42:1
 returns : tie.Need-returns Inv-loop μ-loop
-returns c =
-    rw (
-      any-done _ {n = c .before .before .before .before .args .layout .header .producers} (omega arith) (omega arith) (c .before .before .loop .inv .0),
-      any-done _ {n = c .before .before .before .before .args .layout .header .producers} (omega arith) (omega arith) (c .before .before .loop .inv .1),
-    )
+returns c = ?
 
 pub producer-tests-spec : {M : Type 1} → statement M
 producer-tests-spec =
@@ -50,8 +56,10 @@ producer-tests-spec =
     Inv-loop
     μ-loop
     loop-holds
+    producer-requires
     bad-share-requires
-    high-producer-requires
+    high-stated-requires
+    high-hours-requires
     add-p
     loop-less
     loop-again
