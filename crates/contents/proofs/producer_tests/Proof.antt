@@ -1,53 +1,59 @@
+use native.Mathlib.Omega.{arith}
+use borrow.Author.Needs.{needs}
+use mathlib.Core.Path.{_≡_, sym}
+use Prim.Native.Nat.{_-_, _≤_, zero-le}
+use Rattle.rules.specs.Range.{any}
+use Rattle.rules.specs.Sheet.{monthUnder}
+use Rattle.laws.proofs.Range.{any-start, any-fold, any-done}
+use Rattle.rules.specs.Refusals.{badShare, highProducer}
+use Rattle.contents.proofs.Stated.{share-stated, high-stated}
 use Rattle.contents.proofs.producer_tests.Statement.{statement}
 use Rattle.contents.proofs.producer_tests.Tie as tie
-use Rattle.contents.proofs.producer_tests.Reads as reads
-use Rattle.contents.proofs.producer_tests.Lts as lts
-use Rattle.ceiling.proofs.high_hours.Reads as high-hours-reads
-use Rattle.limits.proofs.bad_share.Reads as bad-share-reads
-use Rattle.limits.proofs.high_stated.Reads as high-stated-reads
-use Rattle.sheet.proofs.producer.Reads as producer-reads
 
 abbrev Inv-loop : tie.InvT-loop
-Inv-loop s layout share₀ high₀ p₀ share high p = ?
+Inv-loop s layout share₀ high₀ p₀ share high p =
+    (share ≡ any (λ i. badShare (layout .header) (monthUnder layout s .producer i)) p)
+    × (high ≡ any (λ i. highProducer (layout .header) (monthUnder layout s .producer i)) p)
+    × (p ≤ layout .header .producers)
 
 abbrev μ-loop : tie.MeasureT-loop
-μ-loop s layout share₀ high₀ p₀ share high p = ?
+μ-loop s layout share₀ high₀ p₀ share high p = layout .header .producers - p
 
--- src/lib.rt:48:5
 loop-holds : tie.Need-loop-holds Inv-loop μ-loop
-loop-holds c = ?
+loop-holds c = (sym (any-start _), sym (any-start _), zero-le)
 
--- src/lib.rt:49:13
 producer-requires : tie.Need-producer-requires Inv-loop μ-loop
-producer-requires c κs = ?
+producer-requires c κs = search needs
 
--- src/lib.rt:50:25
 bad-share-requires : tie.Need-bad-share-requires Inv-loop μ-loop
-bad-share-requires c κs = ?
+bad-share-requires c κs = search needs
 
--- src/lib.rt:51:24
 high-stated-requires : tie.Need-high-stated-requires Inv-loop μ-loop
-high-stated-requires c κs = ?
+high-stated-requires c κs = search needs
 
--- src/lib.rt:51:41
 high-hours-requires : tie.Need-high-hours-requires Inv-loop μ-loop
-high-hours-requires c κs = ?
+high-hours-requires c κs = search needs
 
--- src/lib.rt:52:9
 add-p : tie.Need-add-p Inv-loop μ-loop
-add-p c = ?
+add-p c = omega arith
 
--- src/lib.rt:48:5
 loop-less : tie.Need-loop-less Inv-loop μ-loop
-loop-less c = ?
+loop-less c = omega arith
 
--- src/lib.rt:48:5
 loop-again : tie.Need-loop-again Inv-loop μ-loop
-loop-again c = ?
+loop-again c =
+    (
+      any-fold _ _ (c .before .before .before .before .before .before .loop .inv .0) (share-stated _ _ (c .before .before .before .producer .ensures) (c .before .before .bad-share .ensures)),
+      any-fold _ _ (c .before .before .before .before .before .before .loop .inv .1) (high-stated _ _ (c .before .before .before .producer .ensures) (c .before .high-stated .ensures) (c .high-hours .ensures)),
+      omega arith,
+    )
 
--- src/lib.rt:42:1
 returns : tie.Need-returns Inv-loop μ-loop
-returns c = ?
+returns c =
+    rw (
+      any-done _ {n = c .before .before .before .before .args .layout .header .producers} (omega arith) (omega arith) (c .before .before .loop .inv .0),
+      any-done _ {n = c .before .before .before .before .args .layout .header .producers} (omega arith) (omega arith) (c .before .before .loop .inv .1),
+    )
 
 pub producer-tests-spec : {M : Type 1} → statement M
 producer-tests-spec =
