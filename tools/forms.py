@@ -104,13 +104,18 @@ def parted(text):
     return f"{int(whole):,}".replace(",", " ") + point + part
 
 
+def name_in_utf8(answer):
+    """The month's name for programs; a byte of a file's name that is no text is written as \\udcff."""
+    return answer.given.name.encode("utf-8", "backslashreplace").decode()
+
+
 def as_csv(answers):
     """A line for each record of each month: row, consumer, totals or refusal. What a record does not have is empty."""
     text = io.StringIO()
     lines = csv.DictWriter(text, COLUMNS, lineterminator="\n")
     lines.writeheader()
     for answer in answers:
-        month, refused = answer.given.name, answer.refused
+        month, refused = name_in_utf8(answer), answer.refused
         if refused:
             lines.writerow({"month": month, "record": "refusal", "refusal": refused.number, "words": refused.words,
                             "byte": refused.byte, "field": refused.field})
@@ -128,8 +133,8 @@ def as_json(answers):
     for answer in answers:
         rows, consumers, totals = ([], [], None) if answer.refused else records_of(answer)
         refusal = answer.refused and dict(zip(("number", "words", "byte", "field"), answer.refused))
-        name = answer.given.name.encode("utf-8", "backslashreplace").decode()
-        months.append({"month": name, "refusal": refusal, "rows": rows, "consumers": consumers, "totals": totals})
+        months.append({"month": name_in_utf8(answer), "refusal": refusal, "rows": rows, "consumers": consumers,
+                       "totals": totals})
     return json.dumps(months, indent=1) + "\n"
 
 

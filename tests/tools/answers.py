@@ -132,6 +132,18 @@ def test_names(folder):
     check(field in done.stdout.decode(), "names: --table is in UTF-8, whatever the locale", words_of(done))
 
 
+def test_odd_names(folder):
+    """A file's name that is no text: as it is in listings, in UTF-8 for programs."""
+    name = "\udcff,\n.sheet"
+    (folder / name).write_bytes((EXAMPLES / "exam-126.sheet").read_bytes())
+    done = report(name, name, folder=folder)
+    wanted = b"\xff,\n.sheet:\n" + LISTINGS["exam-126"].encode()
+    check(done.stdout == 2 * wanted, "report: a name that is no text", words_of(done))
+    lines = list(csv.DictReader(io.StringIO(form("csv", name, folder=folder))))
+    month, = json.loads(form("json", name, folder=folder))
+    check({line["month"] for line in lines} == {month["month"]} == {"\\udcff,\n.sheet"}, "--csv, --json: the same")
+
+
 def test_result_bytes(folder):
     """--result writes the rival's result, byte for byte; of a refused month nothing."""
     for name in SETTLED:

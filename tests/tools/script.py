@@ -134,15 +134,16 @@ def test_copied(folder):
         check(done.returncode == 0 and done.stderr == said and b"124.0" in done.stdout, "settle: a copied tree",
               words_of(done))
     check(house.checks() == 1, "settle: a copied tree is not built")
-    (copy / "target/bin/settle").write_text("#!/bin/sh\necho 'R0 1.0 1.0 1.00'\n")
-    done = run(copy / "settle", stdin=EXAM, path=house.bin_without_rt)
-    check(done.returncode == 2 and not done.stdout and b"what it printed is no listing" in done.stderr,
-          "settle: a program that ends too soon", words_of(done))
+    for listing in ("", "N", "R0 1.0 1.0 1.00", "R0 1.0 1.0 1.00\nT 1.00", "R0 1.0 1.0 1.00\nT 1.00 0.0"):
+        (copy / "target/bin/settle").write_text(f"#!/bin/sh\necho '{listing}'\n")
+        done = run(copy / "settle", stdin=EXAM, path=house.bin_without_rt)
+        check(done.returncode == 2 and not done.stdout and b"what it printed is no listing" in done.stderr,
+              "settle: a program that ends too soon", words_of(done))
 
 
 def test_at_once(folder):
     """Two first runs at once: each settles, and neither has a fault to tell. With flock, one of them waits."""
-    for flock in (False, True):
+    for flock in (False, True) if shutil.which("flock") else (False,):
         place = folder / str(flock)
         place.mkdir()
         house = House(place)
