@@ -29,7 +29,7 @@ def result_of_listing(listing, content):
                    for line in listing.splitlines()]
         result = result_of([RowFigures(*line) for line in figures[:rows]],
                            [ConsumerFigures(*line) for line in figures[rows:rows + consumers]], figures[-1])
-    except (TypeError, IndexError, struct.error):
+    except (TypeError, ValueError, IndexError, struct.error):
         return None
     listed = "".join(f"{line}\n" for line in listing_lines(rows, consumers, result))
     return result if listed == listing else None

@@ -197,7 +197,7 @@ def test_other_programs(folder):
     small = LISTINGS["small"].replace("\n", "\\n")
     for said in ("", "N", "N9", "N9\\nN9\\n", "T 0.00 0.00\\n", small[:-2], small.replace("R1", "R2"), f"{small}\\n",
                  small.replace("76.1", "076.1"), small.replace("76.1", "76.10"), small.replace("76.1", "99999999999.9"),
-                 small.replace(" 76.1", ""), small.replace("T", "X"), "\\0377\\n"):
+                 small.replace(" 76.1", ""), small.replace("T", "X"), small.replace("76", 5000 * "9"), "\\0377\\n"):
         (folder / "program.says").write_text(said)
         turned_down("a bad program", folder, ["--form", "json", EXAMPLES / "small.sheet"],
                     "is no listing of this sheet", status=2, command=report, program=program)
