@@ -1,7 +1,7 @@
 """Kinds of sheets that are turned down, by every cause that document 01 names; sheets that break several rules at
 once; damaged sheets.
 
-A cause changes an accepted Sheet so that it breaks one rule and no rule with a lower number.
+A cause changes an accepted Sheet so that it breaks one rule and none that is tried before it.
 """
 from dataclasses import dataclass
 from itertools import combinations
@@ -10,6 +10,7 @@ from accepted import ordinary_month
 from drawing import draw_consumer, draw_sheet
 from records import (HEADER, LOWEST_Z, MOST_CONSUMERS, MOST_PRODUCERS, MOST_ROWS, ONE, SINGLE_BUYER, TOP_CAPACITY,
                      TOP_PRICE, TOP_Z, Row, result_length)
+from refusals import BUFFER_NUMBER, TRIED, tried_from, turn
 
 LARGEST_4 = 2 ** 32 - 1
 
@@ -268,7 +269,7 @@ def causes_of_figures():
         yield 12, f"z_{figure}", "consumers", z_is(figure)
 
 
-CAUSES = {number: [] for number in range(1, 13)}
+CAUSES = {number: [] for number in TRIED}
 for cause in (*causes_of_length(), *causes_of_month_and_counts(), *causes_of_figures()):
     CAUSES[cause[0]].append(Cause(*cause))
 
@@ -322,7 +323,7 @@ def accepted_sheet(rng):
 
 REFUSALS = {number: {cause.name: refused_sheet(cause) for cause in CAUSES[number]} for number in CAUSES}
 REFUSALS[1] = {name: short_sheet(count) for name, count in SHORT_SHEETS.items()}
-REFUSALS[7] = {form: accepted_sheet for form in SHORT_BUFFERS}
+REFUSALS[BUFFER_NUMBER] = {form: accepted_sheet for form in SHORT_BUFFERS}
 
 # ------------------------------------------------------------------ several rules at once
 
@@ -331,46 +332,46 @@ TAKEN_AWAY = {"no_producers": "producers", "no_consumers": "consumers", "consume
 
 
 def causes_to_join(rng, numbers):
-    """A cause of each number, the highest number first; none takes away the records that another one changes."""
+    """A cause of each number, that of the last turn first; none takes away the records that another one changes."""
     while True:
-        causes = [rng.choice(CAUSES[number]) for number in sorted(numbers, reverse=True) if CAUSES[number]]
+        causes = [rng.choice(CAUSES[number]) for number in sorted(numbers, key=turn, reverse=True) if CAUSES[number]]
         taken_away = {TAKEN_AWAY.get(cause.name) for cause in causes}
         if not taken_away & {cause.touches for cause in causes}:
             return causes
 
 
-def break_rules(rng, low, high):
-    """Breaks two rules, now and then more that are not below them. Gives the sheet's bytes and the buffer's length.
+def break_rules(rng, first, later):
+    """Breaks two rules, now and then more that are tried later. Gives the sheet's bytes and the buffer's length.
 
-    As a rule the lower number is broken in the last record and the higher one in the first, so that a program that
+    As a rule the number tried first is broken in the last record and the others in the first, so that a program that
     goes through the sheet once and answers with what it meets first is found out.
     """
-    numbers = {low, high}
+    numbers = {first, later}
     while rng.random() < 0.25:
-        numbers.add(rng.randrange(low, 13))
+        numbers.add(rng.choice(tried_from(first)))
     causes = causes_to_join(rng, numbers)
     touched = {cause.touches for cause in causes}
     producers = rng.randrange(1, 3) if touched & {"producers", "rows"} or rng.random() < 0.3 else 0
     sheet = draw_sheet(rng, producers, rng.randrange(2, 5) if producers else 0, rng.randrange(2, 5))
     # A cause of the length comes last: it is to see the sheet as it will be handed over.
     for cause in causes:
-        usual = last_of if cause.number == low else first_of
+        usual = last_of if cause.number == first else first_of
         cause.change(rng, sheet, rng.choice((usual, usual, rng.choice)))
     content = sheet.to_bytes()
-    if low == 1:
+    if first == 1:
         content = content[:rng.randrange(HEADER)]
     buffer = result_length(len(sheet.rows), len(sheet.consumers))
-    if 7 in numbers:
+    if BUFFER_NUMBER in numbers:
         buffer = short_buffer(rng, rng.choice(SHORT_BUFFERS), buffer)
     return content, buffer
 
 
-def rules_broken(low, high):
-    return lambda rng: break_rules(rng, low, high)
+def rules_broken(first, later):
+    return lambda rng: break_rules(rng, first, later)
 
 
-# Every two numbers, the lower first: "3_and_9".
-SEVERAL_RULES = {f"{low}_and_{high}": rules_broken(low, high) for low, high in combinations(range(1, 13), 2)}
+# Every two numbers, the one that is tried first in front: "3_and_9".
+SEVERAL_RULES = {f"{first}_and_{later}": rules_broken(first, later) for first, later in combinations(TRIED, 2)}
 
 # ------------------------------------------------------------------ damaged sheets
 

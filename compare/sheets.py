@@ -22,6 +22,7 @@ import programs
 import refused
 import ties
 from records import HEADER, MOST_CONSUMERS, MOST_ROWS, TOP_CAPACITY, TOP_Z, result_length
+from refusals import BUFFER_NUMBER, FORM, TRIED
 
 LONGEST_RESULT = result_length(MOST_ROWS, MOST_CONSUMERS)
 LONGEST_BUFFER = 2000
@@ -68,7 +69,7 @@ GROUPS = {
 SHARES = {
     "checked_months": 1, "slips": 4, "several_rules": 8, "bands_of_k1": 10, "bands_of_consumers": 8, "ties": 10,
     "zero_counts": 3, "months": 8, "ceilings": 4, "powers": 4, "cut": 5, "credits": 5, "largest": 2, "damaged": 6,
-    "buffers": 4, "ordinary": 6, **{f"refusal_{number}": 1 for number in range(1, 13)},
+    "buffers": 4, "ordinary": 6, **{f"refusal_{number}": 1 for number in TRIED},
 }
 
 
@@ -87,9 +88,9 @@ SCHEDULE = make_schedule()
 
 def draw_buffer(rng, group, corner, needed):
     """The length of the result buffer; it is too short only where that is what the sheet is for, or does not matter."""
-    if group in ("buffers", "refusal_7"):
+    if group in ("buffers", f"refusal_{BUFFER_NUMBER}"):
         form = corner
-    elif group in (f"refusal_{number}" for number in range(1, 7)):
+    elif group in (f"refusal_{number}" for number in FORM):
         form = rng.choice(BUFFERS)
     else:
         form = rng.choices(("exact", "longer_by_one", "much_longer"), (60, 15, 25))[0]
@@ -138,7 +139,7 @@ def intended_refusal(kind):
     if corner == "rows_without_producers":
         return 10
     if group == "buffers" and corner in ("none", "shorter", "shorter_by_one"):
-        return 7
+        return BUFFER_NUMBER
     return 0
 
 

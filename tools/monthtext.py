@@ -1,6 +1,7 @@
 """A month kept as text: a TOML file, with a CSV file for each producer whose hours differ. README.md lists the keys.
 
 A figure is taken digit by digit as it is written, in quotes or without, so nothing passes through a binary fraction.
+What is wrong in several places is told together: a Trouble has a line for each fault.
 """
 import calendar
 import datetime
@@ -8,17 +9,20 @@ import os
 import re
 from array import array
 from contextlib import contextmanager
+from typing import NamedTuple
 
 from files import Trouble, read_text
+from names import LONGEST_NAME, Names, wrong_character
 from records import (BUYER, CONSUMER_FIELDS, DAYS, HEADER_FIELDS, HOUR_FIELDS, HOURS, PLAIN, PRODUCER_FIELDS,
-                     PRODUCER_NUMBER, ROW_FIELDS, SINGLE_BUYER, Consumer, Month, Producer, Row, Sheet)
+                     PRODUCER_NUMBER, ROW_FIELDS, SINGLE_BUYER, SINGLE_BUYER_WORDS, Consumer, Month, Producer, Row,
+                     Sheet)
 
-SINGLE_BUYER_WORDS = "single buyer"
 CSV_HEAD = ",".join(field.key for field in HOUR_FIELDS)
 MONTH_FIELDS = [field for field in HEADER_FIELDS if field.key in ("days", "weekday")]
 TOP_KEYS = ("year", "month", "days", "weekday", "holidays", "producer", "row", "consumer")
 MOST_RECORDS = 255      # that a count byte holds
 LAST_HOLIDAY = 32       # the last day that the holidays' bits can name
+MOST_LINES = 3          # of a CSV file that are told as wrong one by one
 NUMBER = re.compile(r"([0-9]+)(?:\.([0-9]+))?")
 DATE = re.compile(r"[0-9]{4}-[0-9]{2}-[0-9]{2}")
 
@@ -29,7 +33,25 @@ def at(place):
     try:
         yield
     except Trouble as trouble:
-        raise Trouble(f"{place}: {trouble}") from None
+        raise Trouble(*(f"{place}: {line}" for line in trouble.lines)) from None
+
+
+class Faults:
+    """What goes wrong in parts that do not need one another, to be told together."""
+
+    def __init__(self):
+        self.lines = []
+
+    @contextmanager
+    def part(self):
+        try:
+            yield
+        except Trouble as trouble:
+            self.lines.extend(trouble.lines)
+
+    def tell(self):
+        if self.lines:
+            raise Trouble(*self.lines)
 
 
 def shown(value):
@@ -82,32 +104,62 @@ def number_of(text, unit):
     return int((whole + part.ljust(unit.decimals, "0")) or "0")
 
 
-def read_figures(table, fields):
-    """The figures of a table, in the order of the fields."""
+def read_figures(table, fields, faults):
+    """The figures of a table, in the order of the fields, as far as they can be read."""
     figures = []
     for field in fields:
-        with at(field.key):
-            if field.unit is BUYER and table[field.key] == SINGLE_BUYER_WORDS:
-                figures.append(SINGLE_BUYER)
-            else:
-                figures.append(figure_of(table[field.key], field))
+        if field.key in table:
+            with faults.part(), at(field.key):
+                figures.append(buyer_of(table[field.key], field) if field.unit is BUYER
+                               else figure_of(table[field.key], field))
     return figures
+
+
+def buyer_of(value, field):
+    """A consumer's number, or the single buyer's; the latter is not written as a number, since no consumer has it."""
+    if value == SINGLE_BUYER_WORDS:
+        return SINGLE_BUYER
+    number = figure_of(value, field)
+    if number == SINGLE_BUYER:
+        raise Trouble(f'{shown(value)} stands for the single buyer in a sheet; in a text write "{SINGLE_BUYER_WORDS}"')
+    return number
 
 
 # ------------------------------------------------------------------ from text to a sheet
 
 
+class Text(NamedTuple):
+    """A month kept as text."""
+    sheet: Sheet
+    names: Names
+    title: str      # as "December 2021"; "" if the text has only days and weekday
+    files: list     # that were read for it
+
+
 def read_sheet(path):
     """The sheet that a month's text gives, and the files that were read for it."""
-    table = read_toml(path)
-    files = [path]
+    text = read_month_text(path)
+    return text.sheet, text.files
+
+
+def read_month_text(path):
+    table, files, faults = read_toml(path), [path], Faults()
     with at(path):
-        check_keys(table, TOP_KEYS, needed=())
-        month = read_month(table)
-        producers = [read_producer(each, month, path, files) for each in tables_of(table, "producer", PRODUCER_FIELDS)]
-        rows = [Row(*each.figures) for each in tables_of(table, "row", ROW_FIELDS)]
-        consumers = [Consumer(*each.figures) for each in tables_of(table, "consumer", CONSUMER_FIELDS)]
-    return Sheet(month, producers, rows, consumers), files
+        month = title = None
+        with faults.part():
+            check_keys(table, TOP_KEYS, needed=())
+        with faults.part():
+            month, title = read_month(table)
+        producers = read_tables(table, "producer", PRODUCER_FIELDS, faults)
+        hours = [read_hours(each, month, path, files, faults) for each in producers]
+        rows = read_tables(table, "row", ROW_FIELDS, faults)
+        consumers = read_tables(table, "consumer", CONSUMER_FIELDS, faults)
+        faults.tell()
+    sheet = Sheet(month, [Producer.of(each.figures, powers) for each, powers in zip(producers, hours)],
+                  [Row(*each.figures) for each in rows], [Consumer(*each.figures) for each in consumers])
+    names = Names(*({number: each.name for number, each in enumerate(tables) if each.name}
+                    for tables in (producers, consumers)))
+    return Text(sheet, names, title, files)
 
 
 def read_toml(path):
@@ -125,38 +177,47 @@ def read_toml(path):
 
 
 def check_keys(table, known, needed):
+    faults = Faults()
     for key in table:
         if key not in known:
-            raise Trouble(f"the key {shown(key)} is unknown; known are {', '.join(known)}")
-    for key in needed:
-        if key not in table:
-            raise Trouble(f"the key {key} is missing")
+            faults.lines.append(f"the key {shown(key)} is unknown; known are {', '.join(known)}")
+    faults.lines += [f"the key {key} is missing" for key in needed if key not in table]
+    faults.tell()
 
 
 def read_month(table):
-    if "year" in table or "month" in table:
-        for field in MONTH_FIELDS:
-            if field.key in table:
-                raise Trouble(f"{field.key}: follows from year and month; give these or days and weekday")
-        check_keys(table, TOP_KEYS, needed=("year", "month"))
-        dates = number_between(table, "year", 1, 9999), number_between(table, "month", 1, 12)
-        before, days = calendar.monthrange(*dates)
-        weekday = before + 1
+    """The month, and its title."""
+    faults = Faults()
+    by_dates = "year" in table or "month" in table
+    if by_dates:
+        faults.lines += [f"{field.key}: follows from year and month; give these or days and weekday"
+                         for field in MONTH_FIELDS if field.key in table]
+        with faults.part():
+            check_keys(table, table, needed=("year", "month"))
+        figures = [number_between(table, *each, faults) for each in (("year", 1, 9999), ("month", 1, 12))]
     else:
-        dates = None
-        with at("without year and month"):
-            check_keys(table, TOP_KEYS, needed=[field.key for field in MONTH_FIELDS])
-        days, weekday = read_figures(table, MONTH_FIELDS)
-    check_keys(table, TOP_KEYS, needed=["holidays"])
+        with faults.part(), at("without year and month"):
+            check_keys(table, table, needed=[field.key for field in MONTH_FIELDS])
+        figures = read_figures(table, MONTH_FIELDS, faults)
+    with faults.part():
+        check_keys(table, table, needed=["holidays"])
+    faults.tell()
     with at("holidays"):
-        return Month(days, weekday, read_holidays(table["holidays"], days, dates))
+        if not by_dates:
+            return Month(*figures, read_holidays(table["holidays"], figures[0], None)), ""
+        year, number = figures
+        before, days = calendar.monthrange(year, number)
+        title = f"{calendar.month_name[number]} {year}"
+        return Month(days, before + 1, read_holidays(table["holidays"], days, (year, number))), title
 
 
-def number_between(table, key, low, high):
-    value = table[key]
-    if not is_whole(value) or not low <= value <= high:
-        raise Trouble(f"{key}: {shown(value)} is not a whole number from {low} to {high}")
-    return value
+def number_between(table, key, low, high, faults):
+    """The number of a key, or None."""
+    value = table.get(key, low)
+    if is_whole(value) and low <= value <= high:
+        return value
+    faults.lines.append(f"{key}: {shown(value)} is not a whole number from {low} to {high}")
+    return None
 
 
 def read_holidays(values, days, dates):
@@ -192,65 +253,104 @@ def day_of(value, days, dates):
 
 
 class Table:
-    """A producer, row or consumer of the text: its name in messages, its keys, its figures."""
+    """A producer, row or consumer of the text."""
 
-    def __init__(self, name, keys, fields, more):
-        self.name, self.keys = name, keys
-        known = [field.key for field in fields] + more
-        with at(name):
-            check_keys(keys, known, known)
-            self.figures = read_figures(keys, fields)
+    def __init__(self, kind, number, keys, fields, faults):
+        self.place, self.keys, self.name = f"{kind} {number}", keys, None     # place: in messages
+        needed = [field.key for field in fields] + ["hours"] * (kind == "producer")
+        named = kind != "row"
+        own = Faults()
+        with own.part():
+            check_keys(keys, needed + ["name"] * named, needed)
+        self.figures = read_figures(keys, fields, own)
+        if named and "name" in keys:
+            with own.part(), at("name"):
+                self.name = read_name(keys["name"])
+        with faults.part(), at(self.place):
+            own.tell()
 
 
-def tables_of(table, kind, fields):
-    """The producers, the rows or the consumers, in their order."""
-    tables = table.get(kind, [])
+def read_tables(table, kind, fields, faults):
+    """The producers, the rows or the consumers, in their order, as far as they can be read."""
+    tables, found = table.get(kind, []), []
     if isinstance(tables, dict):
-        raise Trouble(f"{kind}: each one begins with [[{kind}]], in two brackets")
-    if not isinstance(tables, list) or not all(isinstance(each, dict) for each in tables):
-        raise Trouble(f"{kind}: is no list of tables")
-    if len(tables) > MOST_RECORDS:
-        raise Trouble(f"{kind}: there are {len(tables)}; the count byte holds at most {MOST_RECORDS}")
-    more = ["hours"] if kind == "producer" else []
-    return [Table(f"{kind} {number}", keys, fields, more) for number, keys in enumerate(tables)]
+        faults.lines.append(f"{kind}: each one begins with [[{kind}]], in two brackets")
+    elif not isinstance(tables, list) or not all(isinstance(each, dict) for each in tables):
+        faults.lines.append(f"{kind}: is no list of tables")
+    elif len(tables) > MOST_RECORDS:
+        faults.lines.append(f"{kind}: there are {len(tables)}; the count byte holds at most {MOST_RECORDS}")
+    else:
+        found.extend(Table(kind, number, keys, fields, faults) for number, keys in enumerate(tables))
+    return found
 
 
-def read_producer(table, month, path, files):
-    with at(table.name), at("hours"):
-        hours = table.keys["hours"]
+def read_name(value):
+    """A producer's or consumer's name."""
+    if not isinstance(value, str):
+        raise Trouble(f"{shown(value)} is no text in quotes")
+    name = value.strip()
+    wrong = wrong_character(name)
+    if wrong:
+        raise Trouble(f"has the control character {wrong}")
+    if not name:
+        raise Trouble("is empty; who has no name has no such key")
+    if len(name) > LONGEST_NAME:
+        raise Trouble(f"has {len(name)} characters, and {LONGEST_NAME} are allowed")
+    return name
+
+
+def read_hours(table, month, path, files, faults):
+    """The powers of a producer's hours, as far as they can be read."""
+    hours = table.keys.get("hours")
+    if hours is None:
+        return None     # the missing key was told
+    with faults.part(), at(table.place), at("hours"):
         if isinstance(hours, dict):
-            known = [field.key for field in HOUR_FIELDS]
-            check_keys(hours, known, known)
-            powers = [array("I", [figure]) * month.hours for figure in read_figures(hours, HOUR_FIELDS)]
-        elif isinstance(hours, str):
-            file = os.path.join(os.path.dirname(path), hours)
-            files.append(file)
-            powers = read_csv(file, month.hours)
-        else:
+            known, wrong = [field.key for field in HOUR_FIELDS], Faults()
+            with wrong.part():
+                check_keys(hours, known, known)
+            figures = read_figures(hours, HOUR_FIELDS, wrong)
+            wrong.tell()
+            return [array("I", [figure]) * (month.hours if month else 0) for figure in figures]
+        if not isinstance(hours, str):
             raise Trouble("is neither a file's name nor three powers that hold for every hour")
-        return Producer.of(table.figures, powers)
+        file = os.path.join(os.path.dirname(path), hours)
+        files.append(file)
+        return read_csv(file, month and month.hours)
+    return None
 
 
 def read_csv(path, hours):
-    """The powers of a CSV file: the head, then a line for each hour of the month."""
+    """The powers of a CSV file: the head, then a line for each hour of the month; hours is None if that is unknown."""
     lines = read_text(path).split("\n")
     if lines[-1] == "":
         lines.pop()
     if not lines or lines[0].replace(" ", "").rstrip("\r") != CSV_HEAD:
         raise Trouble(f"{path}, line 1: is not {CSV_HEAD}")
-    if len(lines) - 1 != hours:
+    if len(lines) - 1 != hours and hours is not None:
         raise Trouble(f"{path}: has {len(lines) - 1} lines after the head; the month has {hours} hours")
-    powers = [array("I") for _ in HOUR_FIELDS]
+    powers, faults = [array("I") for _ in HOUR_FIELDS], Faults()
     for number, line in enumerate(lines[1:], 2):
-        cells = line.split(",")
-        if len(cells) != len(HOUR_FIELDS):
-            raise Trouble(f"{path}, line {number}: has not {len(HOUR_FIELDS)} figures with commas between them")
-        for field, series, cell in zip(HOUR_FIELDS, powers, cells):
-            try:
-                series.append(figure_of(cell, field))
-            except Trouble as trouble:
-                raise Trouble(f"{path}, line {number}: {field.key}: {trouble}") from None
+        with faults.part(), at(f"{path}, line {number}"):
+            for series, figure in zip(powers, read_line(line)):
+                series.append(figure)
+    more = len(faults.lines) - MOST_LINES
+    if more > 0:
+        faults.lines[MOST_LINES:] = [f"{path}: more lines that are wrong: {more}"]
+    faults.tell()
     return powers
+
+
+def read_line(line):
+    """The powers of an hour."""
+    cells = line.split(",")
+    if len(cells) != len(HOUR_FIELDS):
+        raise Trouble(f"has not {len(HOUR_FIELDS)} figures with commas between them")
+    figures = []
+    for field, cell in zip(HOUR_FIELDS, cells):
+        with at(field.key):
+            figures.append(figure_of(cell, field))
+    return figures
 
 
 # ------------------------------------------------------------------ from a sheet to text
@@ -284,11 +384,15 @@ def text_files(sheet, path):
         parts.extend(table_lines("row", number, ROW_FIELDS, row))
     for number, consumer in enumerate(sheet.consumers):
         parts.extend(table_lines("consumer", number, CONSUMER_FIELDS, consumer))
-    with at(path):
-        try:
-            return {**files, path: "".join(parts).encode()}
-        except UnicodeEncodeError:
-            raise Trouble("has a name that is not text in UTF-8, so the text cannot name its CSV files") from None
+    return {**files, path: text_bytes(parts, path)}
+
+
+def text_bytes(parts, path):
+    """The bytes of a text with these parts, in which the names of its CSV files stand."""
+    try:
+        return "".join(parts).encode()
+    except UnicodeEncodeError:
+        raise Trouble(f"{path}: has a name that is not text in UTF-8, so the text cannot name its CSV files") from None
 
 
 def table_lines(kind, number, fields, record):

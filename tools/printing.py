@@ -1,30 +1,55 @@
 """A sheet as tables for people, and a result as the listing prints it."""
-from records import (BUYER, CAPACITY, CONSUMER_FIELDS, HEADER, HEADER_FIELDS, PRICE, PRODUCER_FIELDS, ROW_FIELDS,
-                     SINGLE_BUYER, Header, Sheet, figures_of_result)
+from names import NO_NAMES, width
+from records import (CAPACITY, CONSUMER_FIELDS, HEADER, HEADER_FIELDS, PRICE, PRODUCER_FIELDS, ROW_FIELDS,
+                     SINGLE_BUYER, SINGLE_BUYER_WORDS, Header, Sheet, figures_of_result, rounded)
 
 WEEKDAYS = ("Monday", "Tuesday", "Wednesday", "Thursday", "Friday", "Saturday", "Sunday")
 PRODUCER_HEADS = ("producer", "attested", "deductible", "own needs", "no upward bid", "no downward bid", "no plan",
                   "k3", "k6", "k7", "k8", "k9", "k10")
-HOUR_HEADS = ("producer", "working", "possible", "outside")
+HOUR_HEADS = ("producer", "working", "possible", "outside", "control hours", "control average")
 ROW_HEADS = ("row", "producer", "consumer", "volume", "price")
 CONSUMER_HEADS = ("consumer", "contract", "peak", "supplier's days", "grid's days", "z", "price")
+
+# ------------------------------------------------------------------ tables
+
+
+def table_lines(heads, lines, left=()):
+    """Cells under their heads, flush right save in the columns named left; no blanks at the end of a line."""
+    lines = [heads, *lines]
+    widths = [max(map(width, column)) for column in zip(*lines)]
+    return ["  ".join(blanks_added(cell, wide, place in left)
+                      for place, (cell, wide) in enumerate(zip(line, widths))).rstrip() for line in lines]
+
+
+def blanks_added(cell, wide, left):
+    blanks = " " * (wide - width(cell))
+    return cell + blanks if left else blanks + cell
+
 
 # ------------------------------------------------------------------ a sheet as tables
 
 
-def sheet_lines(content):
+def sheet_lines(content, names=NO_NAMES):
     """A sheet as far as it can be read, whether it would be refused or not."""
     lines = header_lines(content)
     if len(content) < HEADER:
         return lines
     header, sheet = Header.from_bytes(content), Sheet.from_bytes(content)
-    lines += table("Producers, in MW; counts of hours; coefficients", PRODUCER_HEADS, sheet.producers,
-                   lambda producer: cells(PRODUCER_FIELDS, producer))
-    lines += table(f"Hours, in MW summed over the {header.month.hours} hours of the month", HOUR_HEADS, sheet.producers,
-                   lambda producer: [CAPACITY.text(sum(powers)) for powers in producer.powers()])
-    lines += table("Rows, in MW; prices in tenge", ROW_HEADS, sheet.rows, lambda row: cells(ROW_FIELDS, row))
-    lines += table("Consumers, in MW; mining days; prices in tenge", CONSUMER_HEADS, sheet.consumers,
-                   lambda consumer: cells(CONSUMER_FIELDS, consumer))
+    hours = (f"Hours, the powers of {header.month.hours} hours summed, in MWh; "
+             "outside use averaged over control hours, in MW")
+    for title, heads, records, kind, cells_of in (
+        ("Producers, in MW; counts of hours; coefficients", PRODUCER_HEADS, sheet.producers, "producer",
+         lambda producer: cells(PRODUCER_FIELDS, producer)),
+        (hours, HOUR_HEADS, sheet.producers, "producer", lambda producer: hour_cells(producer, header.month)),
+        ("Rows, in MW; prices in tenge", ROW_HEADS, sheet.rows, "row",
+         lambda row: [*party_cells(row, names), *cells(ROW_FIELDS, row)[2:]]),
+        ("Consumers, in MW; mining days; prices in tenge", CONSUMER_HEADS, sheet.consumers, "consumer",
+         lambda consumer: cells(CONSUMER_FIELDS, consumer)),
+    ):
+        if records:
+            left = () if names == NO_NAMES else (1, 2) if kind == "row" else (0,)
+            lines += ["", title] + table_lines(heads, [[names.cell(kind, number), *cells_of(record)]
+                                                       for number, record in enumerate(records)], left)
     return lines + end_lines(content, header)
 
 
@@ -48,18 +73,21 @@ def header_text(key, figure):
     return str(figure)
 
 
-def table(title, heads, records, cells_of):
-    """The records under their heads, numbered from 0, flush right; nothing if there are none."""
-    if not records:
-        return []
-    lines = [heads] + [[str(number), *cells_of(record)] for number, record in enumerate(records)]
-    widths = [max(map(len, column)) for column in zip(*lines)]
-    return ["", title] + ["  ".join(cell.rjust(width) for cell, width in zip(line, widths)) for line in lines]
-
-
 def cells(fields, record):
-    return ["single buyer" if field.unit is BUYER and figure == SINGLE_BUYER else field.unit.text(figure)
-            for field, figure in zip(fields, record.figures())]
+    return [field.unit.text(figure) for field, figure in zip(fields, record.figures())]
+
+
+def party_cells(row, names):
+    """Who sells in a row, and who buys."""
+    buyer = SINGLE_BUYER_WORDS if row.consumer == SINGLE_BUYER else names.cell("consumer", row.consumer)
+    return [names.cell("producer", row.producer), buyer]
+
+
+def hour_cells(producer, month):
+    """The sums of a producer's powers, and the control average of its outside use."""
+    control = month.control_hours()
+    average = rounded(sum(producer.outside[hour] for hour in control), len(control)) if control else 0
+    return [*(CAPACITY.text(sum(powers)) for powers in producer.powers()), str(len(control)), CAPACITY.text(average)]
 
 
 def end_lines(content, header):

@@ -17,7 +17,15 @@ TOP_PRICE = 200_000_000
 LOWEST_Z, TOP_Z = 10, 100
 ONE = 1_000_000      # a coefficient of 1
 SINGLE_BUYER = 255
+SINGLE_BUYER_WORDS = "single buyer"
 VERSION = 1
+RESULT_VERSION = 1    # under every version of the sheet
+
+
+def rounded(figure, divisor):
+    """A quotient to the nearest whole number, a half upward."""
+    return (2 * figure + divisor) // (2 * divisor)
+
 
 # ------------------------------------------------------------------ units and fields
 
@@ -306,9 +314,15 @@ class Entry(NamedTuple):
     field: Field
     figure: int
 
-    def where(self):
-        hour = "" if self.hour is None else f", hour {self.hour} (day {self.hour // 24 + 1}, {self.hour % 24}:00)"
-        return f"{self.record} {self.number}{hour}, {self.field.words}"
+    def where(self, names=None):
+        """The field in words; names has those of producers and consumers, if they are known."""
+        record = names.label(self.record, self.number) if names else f"{self.record} {self.number}"
+        hour = "" if self.hour is None else f", {hour_words(self.hour)}"
+        return f"{record}{hour}, {self.field.words}"
+
+
+def hour_words(hour):
+    return f"hour {hour} (day {hour // 24 + 1}, {hour % 24}:00)"
 
 
 def entries(content):
@@ -363,6 +377,13 @@ def figures_of_result(rows, consumers, result):
     return ([RowFigures(*figures) for figures in struct.iter_unpack(">2IQ", result[5:place])],
             [ConsumerFigures(*figures) for figures in struct.iter_unpack(">2IB2Q", result[place:end])],
             struct.unpack(">2Q", result[end:end + 16]))
+
+
+def result_of(rows, consumers, totals):
+    """The bytes of a result with these figures."""
+    length = result_length(len(rows), len(consumers))
+    return b"".join((struct.pack(">IB", length, RESULT_VERSION), *(struct.pack(">2IQ", *row) for row in rows),
+                     *(struct.pack(">2IB2Q", *consumer) for consumer in consumers), struct.pack(">2Q", *totals)))
 
 
 def result_figures(sheet, result):

@@ -1,4 +1,4 @@
-"""Why a sheet is refused: the first number that applies, and the first field that breaks the rule.
+"""Why a sheet is refused: every number that applies, in the order in which they are tried, with the fields.
 
 An aid for people. What holds is the answer of the proved program; number 7 is about the result buffer, not the sheet.
 """
@@ -6,9 +6,14 @@ from typing import NamedTuple
 
 from records import (BUYER, CAPACITY, COEFFICIENT, DAYS, HEADER, HEADER_FIELDS, HOURS, LOWEST_Z, MOST_CONSUMERS,
                      MOST_PRODUCERS, MOST_ROWS, ONE, PRICE, PRODUCER_NUMBER, SINGLE_BUYER, TOP_CAPACITY, TOP_PRICE,
-                     TOP_Z, VERSION, Z, Header, entries)
+                     TOP_Z, VERSION, Z, Entry, Header, entries)
 
 HANDED_OVER = 65_536    # bytes of a longer input that the program takes
+
+# The order in which the numbers are tried, each over the whole sheet before the next. What is "first" goes by the place
+# in this list and never by size: a number added later stands where it is tried.
+TRIED = (1, 2, 3, 4, 5, 6, 7, 8, 9, 10, 11, 12)
+BUFFER_NUMBER = 7       # the result buffer is shorter than the result
 
 RULES = {
     1: f"the sheet has fewer than {HEADER} bytes",
@@ -17,6 +22,7 @@ RULES = {
     4: "there is no such month: days are 28 to 31, the weekday of day 1 is 1 to 7, no holiday is past the last day",
     5: f"too many records: at most {MOST_PRODUCERS} producers, {MOST_ROWS} rows, {MOST_CONSUMERS} consumers",
     6: "the length is not what the counts and the days ask for",
+    7: "the result buffer is shorter than the result",
     8: "a count of hours is above the hours of the month, or a given coefficient is above 1",
     9: f"a capacity, power, volume or peak is above {CAPACITY.text(TOP_CAPACITY)} MW",
     10: "a row names a producer or a consumer that the sheet does not have",
@@ -25,14 +31,49 @@ RULES = {
 }
 
 
+def turn(number):
+    """The place of a number in the order in which they are tried."""
+    return TRIED.index(number)
+
+
+def tried_before(number):
+    return TRIED[:turn(number)]
+
+
+def tried_from(number):
+    """The number and those that are tried after it."""
+    return TRIED[turn(number):]
+
+
+# The sheet's form, decided by its first bytes and its length; its figures come after the result buffer.
+FORM = tried_before(BUFFER_NUMBER)
+FIGURES = tried_from(BUFFER_NUMBER)[1:]
+# Where one of these applies, nobody can tell which byte belongs to which record.
+WITHOUT_PLACES = (1, 2, 6)
+
+
 class Refusal(NamedTuple):
+    """A field that breaks a rule."""
     number: int
-    place: int     # of the first byte of the field
-    field: str     # the field and what is wrong with it
+    place: int              # of the field's first byte
+    said: str = ""          # what is wrong with a field of the header
+    entry: Entry = None     # any other field,
+    allowed: str = ""       # and what is allowed there
+    remark: str = ""
 
     @property
     def rule(self):
         return RULES[self.number]
+
+    def field(self, names=None):
+        """The field and what is wrong with it."""
+        if self.entry is None:
+            return self.said + self.remark
+        return f"{self.entry.where(names)}, {self.figure()}{self.remark}"
+
+    def figure(self):
+        unit = self.entry.field.unit
+        return f"{f'{unit.text(self.entry.figure)} {unit.symbol}'.rstrip()} ({self.allowed})"
 
 
 def field_places():
@@ -52,7 +93,7 @@ def header_refusal(number, key, words):
     return Refusal(number, place, f"{field.words}, {words}")
 
 
-# ------------------------------------------------------------------ numbers 1 to 6
+# ------------------------------------------------------------------ the sheet's form
 
 
 def short_refusal(content):
@@ -62,25 +103,23 @@ def short_refusal(content):
             return Refusal(1, place, f"{field.words}, which is cut off: the sheet ends after {len(content)} bytes")
 
 
-def month_refusal(header):
-    """Number 4, or none."""
+def month_refusals(header):
+    """Number 4."""
     if not 28 <= header.days <= 31:
-        return header_refusal(4, "days", header.days)
+        yield header_refusal(4, "days", header.days)
     if not 1 <= header.weekday <= 7:
-        return header_refusal(4, "weekday", header.weekday)
+        yield header_refusal(4, "weekday", header.weekday)
     for day in range(header.days + 1, 33):
         if header.holidays >> day - 1 & 1:
-            return header_refusal(4, "holidays", f"day {day} in a month of {header.days} days")
-    return None
+            yield header_refusal(4, "holidays", f"day {day} in a month of {header.days} days")
 
 
-def counts_refusal(header):
-    """Number 5, or none."""
+def counts_refusals(header):
+    """Number 5."""
     for key, most in (("producers", MOST_PRODUCERS), ("rows", MOST_ROWS), ("consumers", MOST_CONSUMERS)):
         count = getattr(header, key)
         if count > most:
-            return header_refusal(5, key, f"{count} (at most {most})")
-    return None
+            yield header_refusal(5, key, f"{count} (at most {most})")
 
 
 def length_refusal(header, content):
@@ -95,7 +134,7 @@ def length_refusal(header, content):
 
 
 def form_refusals(content):
-    """Each number from 1 to 6 that applies to the bytes handed over; where 1 does, the others cannot be told."""
+    """What breaks the rules of the form in the bytes handed over; where 1 applies, the others cannot be told."""
     if len(content) < HEADER:
         yield short_refusal(content)
         return
@@ -104,12 +143,13 @@ def form_refusals(content):
         yield header_refusal(2, "length", f"{header.length}, but there are {len(content)} bytes")
     if header.version != VERSION:
         yield header_refusal(3, "version", header.version)
-    yield from filter(None, (month_refusal(header), counts_refusal(header)))
+    yield from month_refusals(header)
+    yield from counts_refusals(header)
     if header.length != header.sheet_length:
         yield length_refusal(header, content)
 
 
-# ------------------------------------------------------------------ numbers 8 to 12
+# ------------------------------------------------------------------ the sheet's figures
 
 
 def broken_rule(entry, header):
@@ -134,29 +174,42 @@ def broken_rule(entry, header):
     return None
 
 
-def figures_refusal(content):
-    """The lowest number from 8 to 12 that a field breaks, with the first field that does; or none."""
+def figure_refusals(content):
+    """What breaks the rules of the figures, in the sheet's order; the places of its records must be known."""
     header = Header.from_bytes(content)
-    lowest = None
     for entry in entries(content):
         broken = broken_rule(entry, header)
-        if broken and (lowest is None or broken[0] < lowest.number):
+        if broken:
             number, allowed = broken
-            figure = f"{entry.field.unit.text(entry.figure)} {entry.field.unit.symbol}".rstrip()
-            lowest = Refusal(number, entry.place, f"{entry.where()}, {figure} ({allowed})")
-    return lowest
+            yield Refusal(number, entry.place, entry=entry, allowed=allowed)
+
+
+# ------------------------------------------------------------------ all together
+
+
+def all_refusals(content):
+    """Every field that breaks a rule, by the turn of its number and then by its place; of a sheet as the program is
+    handed it. None if it is accepted. The figures are left out where the places of the records cannot be told."""
+    handed_over = content[:HANDED_OVER]
+    found = list(form_refusals(handed_over))
+    if places_known(found):
+        found.extend(figure_refusals(handed_over))
+    found.sort(key=lambda refusal: (turn(refusal.number), refusal.place))
+    if len(content) > HANDED_OVER:
+        # No accepted sheet is that long, so there is a refusal.
+        found[0] = found[0]._replace(remark=f"; of this longer sheet, the program takes {HANDED_OVER} bytes")
+    return found
+
+
+def places_known(refusals):
+    return not any(refusal.number in WITHOUT_PLACES for refusal in refusals)
 
 
 def first_refusal(content):
-    """The first number that applies to a sheet, as the program is handed it, save 7; none if it is accepted."""
-    handed_over = content[:HANDED_OVER]
-    refusal = next(form_refusals(handed_over), None) or figures_refusal(handed_over)
-    if len(content) > HANDED_OVER:
-        # No accepted sheet is that long, so there is a refusal.
-        refusal = refusal._replace(field=f"{refusal.field}; of this longer file, the program takes {HANDED_OVER} bytes")
-    return refusal
+    """The first number that applies to a sheet, save 7, at the first field that breaks it; none if it is accepted."""
+    return next(iter(all_refusals(content)), None)
 
 
 def not_as_text(content):
-    """The first number that keeps a sheet from being written as text without loss, or none."""
+    """What first keeps a sheet from being written as text without loss, or none."""
     return next((refusal for refusal in form_refusals(content) if refusal.number not in (4, 5)), None)

@@ -10,6 +10,7 @@ from pathlib import Path
 
 ROOT = Path(__file__).resolve().parents[2]
 SHEET = ROOT / "tools" / "sheet"
+REPORT = ROOT / "tools" / "report"
 PROGRAM = ROOT / "target" / "bin" / "settle"
 EXAMPLES = ROOT / "examples"
 
@@ -42,25 +43,36 @@ def run(*words, stdin=b"", folder=None, path=None):
     return subprocess.run(words, input=stdin, capture_output=True, cwd=folder, env=env, timeout=60)
 
 
-def load_command():
-    loader = importlib.machinery.SourceFileLoader("sheet_command", str(SHEET))
-    module = importlib.util.module_from_spec(importlib.util.spec_from_loader("sheet_command", loader))
+def load_command(path):
+    name = f"{path.name}_command"
+    loader = importlib.machinery.SourceFileLoader(name, str(path))
+    module = importlib.util.module_from_spec(importlib.util.spec_from_loader(name, loader))
     loader.exec_module(module)
     return module
 
 
-COMMAND = load_command()
+COMMANDS = {path: load_command(path) for path in (SHEET, REPORT)}
 
 
-def sheet(*words, stdin=b"", folder=None):
-    """Runs tools/sheet in this process, which saves a start of Python each time; the answer is as run's."""
+def sheet(*words, **more):
+    """tools/sheet, in this process."""
+    return run_here(SHEET, *words, **more)
+
+
+def report(*words, program=PROGRAM, **more):
+    """tools/report, in this process."""
+    return run_here(REPORT, "--program", program, *words, **more)
+
+
+def run_here(command, *words, stdin=b"", folder=None):
+    """Runs a command in this process, which saves a start of Python each time; the answer is as run's."""
     kept = sys.argv, sys.stdin, sys.stdout, sys.stderr, os.getcwd()
-    sys.argv = [str(SHEET), *map(str, words)]
+    sys.argv = [str(command), *map(str, words)]
     sys.stdin, out, err = (io.TextIOWrapper(io.BytesIO(content)) for content in (stdin, b"", b""))
     sys.stdout, sys.stderr = out, err
     try:
         os.chdir(folder or kept[-1])
-        status = COMMAND.main()
+        status = COMMANDS[command].main()
     except SystemExit as end:
         status = end.code
     except Exception:
@@ -84,10 +96,10 @@ def files_in(folder):
     return {path: path.read_bytes() for path in Path(folder).rglob("*") if path.is_file()}
 
 
-def turned_down(name, folder, words, message, status=1, **more):
+def turned_down(name, folder, words, message, status=1, command=sheet, **more):
     """A command ends with a status and a message, without a traceback, and leaves every file as it was."""
     before = files_in(folder)
-    done = sheet(*words, folder=folder, **more)
+    done = command(*words, folder=folder, **more)
     said = done.stderr.decode(errors="replace")
     check(done.returncode == status and message in " ".join(said.split()) and not done.stdout,
           f"{name}: {message}", words_of(done))

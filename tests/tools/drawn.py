@@ -34,14 +34,15 @@ def test_explained(cases, answers):
         number, rival = refusal.number if refusal else 0, answer if isinstance(answer, int) else 0
         found[rival] = found.get(rival, 0) + 1
         check(number == rival, f"explain: {case.kind}: {number}, the rival has {rival} (0: accepted)")
-    check(set(found) == set(range(13)) - {7}, f"explain: the drawn sheets reach the numbers {sorted(found)}")
+    wanted = {0, *refusals.TRIED} - {refusals.BUFFER_NUMBER}
+    check(set(found) == wanted, f"explain: the drawn sheets reach the numbers {sorted(found)}")
 
 
 def test_places(cases, answers):
     """The field that explain names is the one: when it is repaired, what is named next stands behind it."""
     repaired = []
     for case, answer in zip(cases, answers):
-        if not isinstance(answer, int) or answer < 8:
+        if answer not in refusals.FIGURES:
             continue
         content, last = bytearray(case.sheet), (0, 0)
         for _ in range(MOST_REPAIRS):
@@ -52,8 +53,9 @@ def test_places(cases, answers):
             # A row of a sheet without producers cannot be repaired.
             if content[11] == 0 and refusal.number == 10:
                 break
-            check((refusal.number, refusal.place) > last, f"explain: {case.kind}: byte {refusal.place} after {last}")
-            last = refusal.number, refusal.place
+            found = refusals.turn(refusal.number), refusal.place
+            check(found > last, f"explain: {case.kind}: byte {refusal.place} after {last}")
+            last = found
             entry = next(entry for entry in records.entries(content) if entry.place == refusal.place)
             allowed = {records.BUYER: records.SINGLE_BUYER, records.Z: records.LOWEST_Z}.get(entry.field.unit, 0)
             content[entry.place:entry.place + entry.field.width] = allowed.to_bytes(entry.field.width, "big")
@@ -71,14 +73,14 @@ def test_round_trips(cases, answers):
         with tempfile.TemporaryDirectory() as folder:
             text = os.path.join(folder, "month.toml")
             if refusals.not_as_text(case.sheet):
-                check(number in range(1, 7), f"unpack: {case.kind}: turned down, though it gets past refusal 6")
+                check(number in refusals.FORM, f"unpack: {case.kind}: turned down, though it gets past refusal 6")
                 continue
             check(number not in (1, 2, 3, 6), f"unpack: {case.kind}: taken, though it is refused by {number}")
             for path, content in monthtext.text_files(records.Sheet.from_bytes(case.sheet), text).items():
                 Path(path).write_bytes(content)
             packed, _ = monthtext.read_sheet(text)
             check(packed.to_bytes() == case.sheet, f"pack after unpack: {case.kind}")
-            if number in range(1, 7) or by_command == BY_COMMAND:
+            if number in refusals.FORM or by_command == BY_COMMAND:
                 continue
             by_command += 1
             test_commands(case.kind, case.sheet, Path(folder), files_in(folder))

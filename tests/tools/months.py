@@ -4,10 +4,11 @@ import struct
 import tempfile
 from pathlib import Path
 
+import forms
 import monthtext
 import programs
 import records
-from checks import EXAMPLES, PROGRAM, ROOT, check, files_in, run, sheet, words_of
+from checks import EXAMPLES, PROGRAM, ROOT, check, files_in, report, run, sheet, words_of
 
 
 def test_examples(folder):
@@ -33,7 +34,10 @@ def test_examples(folder):
 
 
 def test_proved(folder):
-    """Each sheet has its listing by the proved program."""
+    """Each sheet has its listing by the proved program; the table of tools/README.md comes from it too."""
+    done = report("--form", "table", "examples/small.toml", folder=ROOT)
+    readme = (ROOT / "tools" / "README.md").read_text()
+    check(f"```\n{done.stdout.decode()}```\n" in readme, "tools/README.md has the table", words_of(done))
     for path in EXAMPLES.glob("*.sheet"):
         done = run(PROGRAM, stdin=path.read_bytes())
         listing = path.with_suffix(".listing").read_bytes()
@@ -55,7 +59,7 @@ def test_result(name, source, listing, folder):
 def test_show_and_explain():
     for name, lines in {
         "month.sheet": ["holidays            day 1, day 16, day 17", " 26         3             0     5.0  568000.00",
-                        "       0  305853.6  307267.2  16437.0"],
+                        "       0  305853.6  307267.2  16437.0            120             28.1"],
         "refused-1.sheet": ["The sheet ends after 13 bytes, inside the header."],
         "refused-2.sheet": ["The sheet ends after 28 bytes; consumer 0 would end after 29."],
         "refused-6.sheet": ["The last record ends after 29 bytes; the sheet has 30."],
@@ -83,8 +87,13 @@ def test_readmes():
     for kind, name in (("toml", "small.toml"), ("", "small.listing")):
         check(f"```{kind}\n{(EXAMPLES / name).read_text()}```\n" in readme, f"tools/README.md has {name}")
     keys = [field.key for field in (*records.PRODUCER_FIELDS, *records.ROW_FIELDS, *records.CONSUMER_FIELDS)]
-    for key in (*keys, *monthtext.TOP_KEYS[:5], "hours", monthtext.CSV_HEAD):
+    for key in (*keys, *monthtext.TOP_KEYS[:5], "name", "hours", monthtext.CSV_HEAD, *forms.COLUMNS):
         check(f"`{key}`" in readme, f"tools/README.md names {key}")
+    usage = run(ROOT / "settle", "--help").stdout.decode()
+    for option in ("--table", "--csv", "--json", "--explain", "--result", "--force", "--strict", "--version"):
+        check(option in usage and f"`{option}" in readme, f"{option} stands in tools/README.md and ./settle --help")
+    check("docs/RULES.md" in readme and "docs/RULES.md" in usage, "the rules' document is named")
+    check(max(map(len, readme.split("\n"))) <= 118, "tools/README.md is wrapped")
     readme = (EXAMPLES / "README.md").read_text()
     for path in EXAMPLES.glob("*.sheet"):
         check(f"`{path.stem}`" in readme, f"examples/README.md names {path.stem}")

@@ -1,24 +1,33 @@
 """The script settle, in a small repository of its own with a stand-in for rt."""
 import os
 import shutil
+import subprocess
+import time
+from hashlib import sha256
 
 from checks import EXAMPLES, PROGRAM, ROOT, check, files_in, run, sheet, words_of
+from texts import GOOD, changed
 
-TOOLS_USED = ("sh", "dirname", "readlink", "find", "cat", "mkdir", "mv", "rm", "cp", "mktemp", "python3", "env")
+TOOLS_USED = ("sh", "dirname", "readlink", "find", "cat", "mkdir", "mv", "rm", "cp", "mktemp", "chmod", "awk", "sleep",
+              "sort", "xargs", "sha256sum", "cut", "git", "python3", "env")
 STAND_IN = """\
 #!/bin/sh
 # rt in the tests: eats its standard input, counts its checks, and puts the program into place.
 case $1 in version) cat "$0.version"; exit 0 ;; esac
 cat >/dev/null
 echo "$*" >>"$0.log"
-echo "rt: rules proved (3 s)"
-echo "a line of the prover"
+[ ! -f "$0.slow" ] || sleep 1
 echo "rt: laws proved (unchanged since it was last proved)"
+echo "a line of the prover"
+echo "rt: rules proved (3 s)"
 [ ! -f "$0.fails" ] || { echo "rt: FAILED: rules"; exit 1; }
+echo "rt: settle proved (4 s)"
+echo "rt: ok, 3 crates proved"
 mkdir -p target/bin target/stamp
 [ -f target/stamp/settle ] || cp "$0.program" target/bin/settle
 echo stamp >target/stamp/settle
 """
+CRATES = "# NAME: crates\nrules:\nlaws: rules  # and more\nother: rules\nsettle: rules laws io libc\n"
 EXAM = (EXAMPLES / "exam-126.sheet").read_bytes()
 LISTINGS = {path.stem: path.read_bytes() for path in EXAMPLES.glob("*.listing")}
 
@@ -40,7 +49,7 @@ class House:
         self.source.mkdir(parents=True)
         (self.source / "lib.rt").write_text("one")
         (self.source / "more.rt").write_text("two")
-        (self.root / "crates.txt").write_text("rules:\n")
+        (self.root / "crates.txt").write_text(CRATES)
         (self.root / "tools").symlink_to(ROOT / "tools")
         (self.root / "examples").symlink_to(EXAMPLES)
         shutil.copy(ROOT / "settle", self.root)
@@ -87,8 +96,8 @@ def test_building(folder):
     house.fails("rt fails", "rt: FAILED: rules\nsettle: the program is not proved, so nothing is settled")
     house.beside_rt("fails").unlink()
 
-    said = house.settles("the first use builds, and rt does not eat the sheet", 1,
-                         b"which takes about two minutes\nrt: rules proved (3 s)\n")
+    said = house.settles("the first use builds, and rt does not eat the sheet", 1, b"which takes about two minutes\n"
+                         b"rt: rules proved (3 s), 2 of 3\nrt: settle proved (4 s), 3 of 3\nrt: ok, 3 crates proved\n")
     check(b"prover" not in said and b"unchanged" not in said, "settle: only rt's lines are passed on", said.decode())
     house.settles("the second use does not build", 0)
     house.settles("a dash", 0, words=["-"])
@@ -101,14 +110,177 @@ def test_building(folder):
     (house.source / "more.rt").unlink()
     house.settles("a source taken away", 1, b"up to date")
     (house.root / "crates.txt").write_text("rules: \n")
-    house.settles("crates.txt", 1, b"up to date")
+    house.settles("crates.txt", 1, b"up to date\nrt: rules proved (3 s)\n")
     house.beside_rt("version").write_text("kit 2\n")
     house.settles("another version of rt", 1, b"up to date")
     (house.root / "target" / "bin" / "settle").unlink()
     house.settles("a program that is gone", 1, b"two minutes")
     house.settles("at the end", 0)
     done = run(house.root / "settle", stdin=EXAM, path=house.bin_without_rt)
-    check(done.stdout == LISTINGS["exam-126"], "settle: an up-to-date program needs no rt", words_of(done))
+    check(done.stdout == LISTINGS["exam-126"] and not done.stderr, "settle: an up-to-date program needs no rt",
+          words_of(done))
+
+
+def test_copied(folder):
+    """A built tree that was copied settles without rt, and says that nobody looked; with rt, rt looks."""
+    house = House(folder)
+    house.settle(stdin=EXAM)
+    copy = folder / "a copy"
+    shutil.copytree(house.root, copy, symlinks=True)
+    for words in ([], ["--table"]):
+        done = run(copy / "settle", *words, EXAMPLES / "exam-126.sheet", path=house.bin_without_rt)
+        said = (b"settle: rt, the Rattle toolchain, is not on the PATH, so nobody looked whether the program is "
+                b"current; the one there settles\n")
+        check(done.returncode == 0 and done.stderr == said and b"124.0" in done.stdout, "settle: a copied tree",
+              words_of(done))
+    check(house.checks() == 1, "settle: a copied tree is not built")
+    for listing in ("", "N", "R0 1.0 1.0 1.00", "R0 1.0 1.0 1.00\nT 1.00", "R0 1.0 1.0 1.00\nT 1.00 0.0"):
+        (copy / "target/bin/settle").write_text(f"#!/bin/sh\necho '{listing}'\n")
+        done = run(copy / "settle", stdin=EXAM, path=house.bin_without_rt)
+        check(done.returncode == 2 and not done.stdout and b"what it printed is no listing" in done.stderr,
+              "settle: a program that ends too soon", words_of(done))
+
+
+def test_at_once(folder):
+    """Two first runs at once: each settles, and neither has a fault to tell. With flock, one of them waits."""
+    for flock in (False, True) if shutil.which("flock") else (False,):
+        place = folder / str(flock)
+        place.mkdir()
+        house = House(place)
+        house.beside_rt("slow").write_text("")
+        if flock:
+            (house.bin / "flock").symlink_to(shutil.which("flock"))
+        env = dict(os.environ, PATH=str(house.bin))
+        runs = [subprocess.Popen(["./settle", EXAMPLES / "exam-126.sheet"], cwd=house.root, env=env,
+                                 stdout=subprocess.PIPE, stderr=subprocess.PIPE) for _ in range(2)]
+        for each in runs:
+            out, err = each.communicate(timeout=30)
+            known = (b"rt: ", b"settle: the program is proved and built", b"settle: another run proves the program")
+            quiet = all(line.startswith(known) for line in err.splitlines())
+            check(each.returncode == 0 and out == LISTINGS["exam-126"] and quiet, "settle: two first runs at once",
+                  err.decode())
+        check(house.checks() in ([1] if flock else [1, 2]), "settle: two first runs at once: checks by rt")
+        left = [path.name for path in files_in(house.root / "target") if path.name.startswith("settle.checked")]
+        check(left == ["settle.checked"], "settle: two first runs at once: what is left", str(left))
+
+
+def test_output(folder):
+    """What cannot be written is told, with status 2; a pipe that nobody reads any more needs no words."""
+    house = House(folder)
+    house.settle(stdin=EXAM)
+    env = dict(os.environ, PATH=f"{house.bin}:/usr/bin:/bin")
+
+    def shell(line):
+        return subprocess.run(["bash", "-c", line], cwd=house.root, env=env, capture_output=True, timeout=60)
+    for words in ("examples/small.sheet", "examples/small.sheet examples/refused-9.sheet", "- <examples/small.sheet",
+                  "examples/small.toml", "--table examples/small.sheet", "--csv examples/small.toml",
+                  "--json examples/small.toml", "--help", "--version"):
+        for place in (">/dev/full", ">&-"):
+            done = shell(f"./settle {words} {place}")
+            said = done.stderr.decode()
+            one_line = said.startswith("settle: ") and said.count("\n") == 1 and "standard output" in said
+            check(done.returncode == 2 and one_line, f"settle {words} {place}", words_of(done))
+        done = shell(f"./settle {words} | {{ exec <&-; sleep 0.3; }}; exit ${{PIPESTATUS[0]}}")
+        check(done.returncode in (0, 2) and not done.stderr, f"settle {words} to a closed pipe", words_of(done))
+    done = shell("{ sleep 0.3; ./settle examples/small.sheet; } | true; exit ${PIPESTATUS[0]}")
+    check(done.returncode == 2 and not done.stderr, "settle: nobody reads the listing", words_of(done))
+    done = shell("{ sleep 0.3; ./settle --csv examples/small.sheet; } | true; exit ${PIPESTATUS[0]}")
+    check(done.returncode == 2 and not done.stderr, "settle --csv: nobody reads it", words_of(done))
+
+
+def test_months(folder):
+    """Texts beside sheets, the forms, --strict and --result; what needs Python, and what does not."""
+    house, elsewhere = House(folder), folder / "else where"
+    elsewhere.mkdir()
+    (elsewhere / "bad.toml").write_text(changed(GOOD, [('"110.0"', '"x"')]))
+    house.fails("a bad text is told before the program is built", "bad.toml: producer 0: attested_capacity",
+                [elsewhere / "bad.toml"])
+    check(house.checks() == 0, "settle: nothing is built for a bad text")
+    house.settle(stdin=EXAM)
+    for name in ("-x.TOML", "a month.toml"):
+        (elsewhere / name).write_bytes((EXAMPLES / "small.toml").read_bytes())
+    small, exam = LISTINGS["small"].decode(), LISTINGS["exam-126"].decode()
+    done = house.settle("a month.toml", folder=elsewhere)
+    check(done.stdout.decode() == small and not done.stderr, "settle: a text", words_of(done))
+    refused = "../house/examples/refused-9.toml"
+    done = house.settle("a month.toml", "-", refused, "--", "-x.TOML", folder=elsewhere, stdin=EXAM)
+    wanted = f"a month.toml:\n{small}standard input:\n{exam}{refused}:\nN9\n./-x.TOML:\n{small}"
+    check(done.returncode == 0 and done.stdout.decode() == wanted and not done.stderr, "settle: texts and sheets",
+          words_of(done))
+    for words, status in ((["--strict", "examples/refused-9.sheet"], 1), (["--strict", "examples/small.sheet"], 0),
+                          (["--strict", "examples/refused-9.toml"], 1),
+                          (["--strict", "--table", "examples/small.toml"], 0),
+                          (["--strict", "examples/refused-9.sheet", "examples/small.sheet"], 1),
+                          (["--strict", "--explain", "examples/refused-9.sheet", "examples/small.sheet"], 1)):
+        done = house.settle(*words)
+        check(done.returncode == status and done.stdout, f"settle {' '.join(words)}: status", words_of(done))
+    for form, start in (("--table", b"examples/small.toml: December 2021\n\nrow  producer "),
+                        ("--csv", b"month,record,row,"), ("--json", b'[\n {\n  "month": "examples/small.toml",\n')):
+        done = house.settle(form, "examples/small.toml")
+        check(done.returncode == 0 and done.stdout.startswith(start) and not done.stderr, f"settle {form}",
+              words_of(done))
+    for result in (["--result", "-r.bin"], ["--result=r bin"], ["--force", "--result", "-r.bin"]):
+        done = house.settle(*result, "examples/small.toml")
+        made = house.root / result[-1].removeprefix("--result=")
+        check(done.stdout.decode() == small and made.stat().st_size == 103, f"settle {' '.join(result)}",
+              words_of(done))
+    done = house.settle("--result", "-r.bin", "examples/small.toml")
+    check(done.returncode == 2 and b"-r.bin: exists; --force" in done.stderr, "settle --result: exists", words_of(done))
+    done = house.settle("--explain", "examples/refused-10.toml")
+    check(done.stdout == b"N10\n" and b"refused-10.toml: row 1, consumer, 2 (" in done.stderr,
+          "settle --explain: a text", words_of(done))
+    for words, said in ((["--table", "--csv"], "--table and --csv are two forms"), (["--result"], "--result wants"),
+                        (["--result", "-"], "--result wants"), (["--result="], "--result wants"),
+                        (["--force"], "--force goes with --result"), (["--tables"], "there is no option --tables"),
+                        (["--result", "r", "a", "b"], "--result takes the result of one month"),
+                        (["none.toml"], "cannot read none.toml")):
+        house.fails(f"wrong use: {' '.join(words)}", said, words)
+    (house.bin / "python3").unlink()
+    done = house.settle("--strict", "examples/small.sheet")
+    check(done.stdout.decode() == small, "settle: a sheet needs no Python", words_of(done))
+    for words in (["examples/small.toml"], ["--json", "examples/small.sheet"], ["--explain", "examples/small.sheet"]):
+        house.fails(f"no Python: {words[0]}", "need python3, which is not on the PATH", words)
+
+
+def test_version(folder):
+    """The revision, the kit, the sources and the archive, as docs/EMBEDDING.md has them."""
+    house = House(folder)
+    (house.root / "tools").unlink()
+    (house.root / "tools").mkdir()
+    shutil.copy(ROOT / "tools" / "version", house.root / "tools")
+    names = ["crates.txt", "crates/rules/src/lib.rt", "crates/rules/src/more.rt"]
+    sums = "".join(f"{sha256((house.root / name).read_bytes()).hexdigest()}  {name}\n" for name in names)
+    sources = sha256(sums.encode()).hexdigest()
+
+    def lines(commands=house.bin):
+        done = run(house.root / "settle", "--version", folder=folder, path=commands)
+        check(done.returncode == 0 and not done.stderr, "settle --version", words_of(done))
+        return dict(line.split(maxsplit=1) for line in done.stdout.decode().splitlines())
+    found = lines()
+    check(found == {"revision": "unknown: this folder is no checkout that git can read", "kit": "kit 1",
+                    "sources": sources,
+                    "archive": "none; 'rt staticlib settlement' makes target/staticlib/libsettlement.a"},
+          "settle --version: no checkout", str(found))
+    git = ["git", "-C", house.root, "-c", "user.name=x", "-c", "user.email=x"]
+    for words in (["init", "-q"], ["add", "."], ["commit", "-q", "-m", "x"]):
+        run(*git, *words)
+    archive = house.root / "target/staticlib/libsettlement.a"
+    archive.parent.mkdir(parents=True)
+    archive.write_bytes(b"archive")
+    (house.root / ".gitignore").write_text("target/\n.gitignore\n")
+    revision, made = run(*git, "rev-parse", "HEAD").stdout.decode().strip(), sha256(b"archive").hexdigest()
+    found = lines(house.bin_without_rt)
+    check(found == {"revision": revision, "kit": "unknown: rt, the Rattle toolchain, is not on the PATH",
+                    "sources": sources, "archive": made}, "settle --version: a checkout", str(found))
+    os.utime(archive, (time.time() - 60, time.time() - 60))
+    (house.source / "new.rt").write_text("new")
+    found = lines()
+    check(found["revision"] == f"{revision}, with files that are changed or new" and found["sources"] == sources
+          and found["archive"].startswith(f"{made}, made before the sources"), "settle --version: changed files",
+          str(found))
+    (house.source / "lib.rt").unlink()
+    check(lines()["sources"] == "unknown: one of them cannot be read", "settle --version: a source is missing")
+    check(house.checks() == 0 and not (house.root / "target/bin").exists(), "settle --version builds nothing")
 
 
 def test_sheets(folder):

@@ -1,10 +1,14 @@
-"""Files that are missing or exist already, bad results, wrong use, and standard input and output in trouble."""
+"""Files that are missing or exist already, bad results, wrong use, an old Python, and standard input and output in
+trouble."""
+import ast
 import struct
 import subprocess
+import sys
 
 import records
 import refusals
-from checks import EXAMPLES, SHEET, check, run, sheet, turned_down, words_of
+import results
+from checks import EXAMPLES, REPORT, SHEET, check, run, sheet, turned_down, words_of
 from texts import CONSTANT, CSV, GOOD, changed
 
 
@@ -18,7 +22,10 @@ def test_files(folder):
         ("pack", ["pack", "none.toml", "out.sheet"], "none.toml: cannot be read: No such file"),
         ("pack", ["pack", "folder", "out.sheet"], "folder: cannot be read: Is a directory"),
         ("pack", ["pack", "month.toml", "old"], "old: exists; --force writes over it"),
-        ("pack", ["pack", "month.toml", "folder", "--force"], "folder: cannot be written: Is a directory"),
+        ("pack", ["pack", "month.toml", "folder"], "folder: is a folder, and a file is to be written; give the name"),
+        ("pack", ["pack", "month.toml", "folder", "--force"], "folder: is a folder"),
+        ("pack", ["pack", "month.toml", "none/", "--force"], "none/: is a folder"),
+        ("pack", ["pack", "month.toml", "", "--force"], ": cannot be written: No such file"),
         ("pack", ["pack", "month.toml", "none/out.sheet"], "none/out.sheet: cannot be written: No such file"),
         ("pack", ["pack", "month.toml", "month.toml", "--force"], "month.toml: is read here"),
         ("pack", ["pack", "month.toml", "hours.csv", "--force"], "hours.csv: is read here"),
@@ -33,9 +40,12 @@ def test_files(folder):
         ("unpack", ["unpack", "out.sheet", "new.toml"], "new-producer-0.csv: exists; --force writes over it"),
         ("unpack", ["unpack", "out.sheet", "out.sheet", "--force"], "out.sheet: is read here"),
         ("unpack", ["unpack", "out.sheet", "none/new.toml"], "cannot be written: No such file"),
+        ("unpack", ["unpack", "out.sheet", "folder", "--force"], "folder: is a folder"),
         ("show", ["show", "none.sheet"], "none.sheet: cannot be read: No such file"),
         ("show", ["show", "folder"], "folder: cannot be read: Is a directory"),
         ("explain", ["explain", "none.sheet"], "none.sheet: cannot be read: No such file"),
+        ("check", ["check", "none.toml"], "none.toml: cannot be read: No such file"),
+        ("check", ["check", "folder"], "folder: cannot be read: Is a directory"),
         ("result", ["result", "none.bin"], "none.bin: cannot be read: No such file"),
     ):
         turned_down(name, folder, words, message)
@@ -50,7 +60,8 @@ def test_files(folder):
 def test_wrong_use(folder):
     for line in ("", "settle", "pack month.toml", "pack month.toml new more", "pack --forced month.toml new",
                  "pack - new", "unpack", "unpack in.sheet -", "unpack in.sheet --force", "show", "show a b", "explain",
-                 "explain a b", "result", "result a.bin --sheet", "result a.bin b.bin"):
+                 "explain a b", "result", "result a.bin --sheet", "result a.bin b.bin", "check", "check a b", "new",
+                 "new 2021", "new 2021-12 - x", "new 2021-12 --rows", "new 2021-12 --rows -1", "new 1-1 --rows 1.0"):
         turned_down(f"wrong use: {line}", folder, line.split(), "usage: tools/sheet", status=2)
 
 
@@ -62,13 +73,16 @@ def result_bytes(rows, consumers, version=1, length=None, paid=0):
 
 def test_results(folder):
     (folder / "one.sheet").write_bytes((EXAMPLES / "exam-126.sheet").read_bytes())
+    zeros = records.Sheet(records.Month(28, 1, 0), [], [], [records.Consumer(0, 0, 0, 0, 10, 0)])
+    (folder / "zeros.sheet").write_bytes(zeros.to_bytes())
     for content, more, message in (
         (b"", [], "has 0 bytes; a result has at least 21"),
         (result_bytes(0, 1)[:40], [], "its length field says 46, but it has 40 bytes"),
         (result_bytes(0, 1, version=2), [], "its version is 2, not 1"),
         (result_bytes(0, 1, length=22), [], "its length field says 22, which no counts of rows and consumers give"),
         (result_bytes(0, 16), [], "of 421 bytes has 0 rows and 16 consumers or 25 rows and 0 consumers; --sheet SHEET"),
-        (result_bytes(0, 1, paid=1), [], "its totals are not the sums of its lines"),
+        (result_bytes(0, 1, paid=1), [], "totals: paid 0.01 is not the sum of the lines, 0.00, so this is no result"),
+        (result_bytes(0, 1, paid=1), ["--sheet", "zeros.sheet"], "0.00, so this is no result of zeros.sheet"),
         (result_bytes(1, 1), ["--sheet", "one.sheet"], "its length field says 62; 0 rows and 1 consumers make 46"),
         (result_bytes(0, 1), ["--sheet", EXAMPLES / "refused-9.sheet"], "is refused by 9, so it has no result"),
         (result_bytes(0, 1), ["--sheet", "none.sheet"], "none.sheet: cannot be read"),
@@ -76,6 +90,63 @@ def test_results(folder):
         turned_down("result", folder, ["result", "-", *more], message, stdin=content)
     done = sheet("result", "-", stdin=result_bytes(0, 1))
     check(done.stdout == b"C0 0.0 0.0 0.0 0.0 0.00\nT 0.00 0.00\n", "result: of zeros", words_of(done))
+
+
+# A figure of the small month's result: where it stands, what is put there, and what is said of it.
+IMPOSSIBLE = [
+    (5, 4, 801, ["row 0: volume after the cut 80.1 is above the sheet's, 80.0"]),
+    (9, 4, 801, ["row 0: actual volume 80.1 is above the volume after the cut, 80.0",
+                 "row 0: payment 46599505.49 is not actual volume × price, 80.1 × 612345.67 = 49048888.17"]),
+    (13, 8, 4659950550, ["row 0: payment 46599505.50 is not actual volume × price, 76.1 × 612345.67 = 46599505.49",
+                         "totals: paid 57809505.49 is not the sum of the lines, 57809505.50"]),
+    (37, 4, 1, ["consumer 0: credit 0.1 is not the sum of the actual volumes of its bilateral rows, 0.0",
+                "consumer 0: percent 1.7 is not that of the counted peak 63.9 over contract volume 60.0, 1.5"]),
+    (41, 4, 51, ["consumer 0: percent 5.1 is not that of the counted peak 64.0 over contract volume 60.0, 1.7",
+                 "consumer 0: n 0.0 is not that of 5.1 percent, 1.3"]),
+    (45, 1, 13, ["consumer 0: n 1.3 is not that of 1.7 percent, 0.0",
+                 "consumer 0: actual volume 60.0 is not what contract volume, n, mining days and z give, 57.4"]),
+    (46, 8, 601, ["consumer 0: actual volume 60.1 is not what contract volume, n, mining days and z give, 60.0",
+                  "consumer 0: charge 36600000.00 is not actual volume × price, 60.1 × 610000.00 = 36661000.00"]),
+    (54, 8, 0, ["consumer 0: charge 0.00 is not actual volume × price, 60.0 × 610000.00 = 36600000.00",
+                "totals: charged 64599000.00 is not the sum of the lines, 27999000.00"]),
+    (95, 8, 0, ["totals: charged 0.00 is not the sum of the lines, 64599000.00"]),
+]
+
+
+def test_impossible(folder):
+    """With the sheet at hand, a figure that no settlement gives is named; nothing is printed as a listing."""
+    source = EXAMPLES / "small.sheet"
+    content = results.result_of_listing((EXAMPLES / "small.listing").read_text(), source.read_bytes())
+    for place, width, figure, wanted in IMPOSSIBLE:
+        changed_result = content[:place] + figure.to_bytes(width, "big") + content[place + width:]
+        (folder / "small.bin").write_bytes(changed_result)
+        done = sheet("result", "small.bin", "--sheet", source, folder=folder)
+        lines = [f"tools/sheet: small.bin: {words}, so this is no result of {source}" for words in wanted]
+        check(done.returncode == 1 and not done.stdout and done.stderr.decode().splitlines() == lines,
+              f"result --sheet: byte {place}", words_of(done))
+    (folder / "small.bin").write_bytes(content)
+    for month in (source, EXAMPLES / "small.toml"):
+        done = sheet("result", "small.bin", "--sheet", month, folder=folder)
+        check(done.stdout == (EXAMPLES / "small.listing").read_bytes(), f"result --sheet {month.name}", words_of(done))
+    done = sheet("result", "-", stdin=content[:45] + b"\x0e" + content[46:])
+    check(done.returncode == 1 and b"consumer 0: n 1.4 is not that of 1.7 percent, 0.0" in done.stderr,
+          "result without a sheet: n", words_of(done))
+
+
+OLD_PYTHON = """\
+import runpy, sys
+sys.version_info, sys.argv = (3, 8, 10, "final", 0), {}
+runpy.run_path(sys.argv[0], run_name="__main__")
+"""
+
+
+def test_old_python():
+    """An old Python can read the first lines of the commands, and gets one plain line from them."""
+    for path, name, status in ((SHEET, "tools/sheet", 1), (REPORT, "settle", 2)):
+        ast.parse(path.read_text(), feature_version=(3, 8))
+        done = run(sys.executable, "-c", OLD_PYTHON.format([str(path), "show", "none"]))
+        said = f"{name}: needs Python 3.11 or newer; {sys.executable} is 3.8\n"
+        check(done.returncode == status and done.stderr.decode() == said, f"{name}: an old Python", words_of(done))
 
 
 def test_started():

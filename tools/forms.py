@@ -1,0 +1,141 @@
+"""The answers of the program in forms for people and for programs: the listing, a table, CSV, JSON.
+
+Every figure is the listing's or the sheet's, letter by letter; nothing is worked out here.
+"""
+import csv
+import io
+import json
+from typing import NamedTuple
+
+from inputs import Given
+from printing import WEEKDAYS, party_cells, table_lines
+from records import CAPACITY, PRICE, SINGLE_BUYER, SINGLE_BUYER_WORDS, Z, Header, Sheet, figures_of_result
+
+ROW_HEADS = (("row", ""), ("producer", ""), ("buyer", ""), ("volume", "MW"), ("after the cut", "MW"), ("actual", "MW"),
+             ("price", "tenge/MW"), ("payment", "tenge"))
+CONSUMER_HEADS = (("consumer", ""), ("contract", "MW"), ("peak", "MW"), ("credit", "MW"), ("percent", ""), ("n", ""),
+                  ("actual", "MW"), ("price", "tenge/MW"), ("charge", "tenge"))
+COLUMNS = ("month", "record", "row", "producer", "producer_name", "consumer", "consumer_name", "volume",
+           "contract_volume", "peak", "price", "volume_after_cut", "credit", "percent", "n", "actual_volume", "payment",
+           "charge", "refusal", "words", "byte", "field")
+
+
+class Refused(NamedTuple):
+    number: int      # the program's
+    words: str
+    byte: int        # and field: None where the aid in refusals.py has another answer than the program
+    field: str
+
+
+class Answer(NamedTuple):
+    given: Given
+    listing: str         # as the program printed it
+    refused: Refused     # or None,
+    result: bytes        # and then these are the result's bytes, laid out from the listing
+
+
+# ------------------------------------------------------------------ records with names and figures
+
+
+def records_of(answer):
+    """The rows, the consumers and the totals of a settled month, each figure as the listing or the sheet has it."""
+    sheet, names = Sheet.from_bytes(answer.given.content), answer.given.names
+    rows, consumers, totals = figures_of_result(len(sheet.rows), len(sheet.consumers), answer.result)
+    by_row = [{
+        "row": number, "producer": row.producer, "producer_name": names.of("producer", row.producer),
+        "consumer": SINGLE_BUYER_WORDS if row.consumer == SINGLE_BUYER else row.consumer,
+        "consumer_name": names.of("consumer", row.consumer),
+        "volume": CAPACITY.text(row.volume), "price": PRICE.text(row.price),
+        "volume_after_cut": CAPACITY.text(figures.after_cut), "actual_volume": CAPACITY.text(figures.actual),
+        "payment": PRICE.text(figures.payment),
+    } for number, (row, figures) in enumerate(zip(sheet.rows, rows))]
+    by_consumer = [{
+        "consumer": number, "consumer_name": names.of("consumer", number),
+        "contract_volume": CAPACITY.text(consumer.contract), "peak": CAPACITY.text(consumer.peak),
+        "price": PRICE.text(consumer.price), "credit": CAPACITY.text(figures.credit), "percent": Z.text(figures.p),
+        "n": Z.text(figures.n), "actual_volume": CAPACITY.text(figures.actual), "charge": PRICE.text(figures.charge),
+    } for number, (consumer, figures) in enumerate(zip(sheet.consumers, consumers))]
+    return by_row, by_consumer, {"paid": PRICE.text(totals[0]), "charged": PRICE.text(totals[1])}
+
+
+# ------------------------------------------------------------------ forms
+
+
+def as_listing(answers):
+    """As ./settle prints it: with more than one month, a line with its name stands before each listing."""
+    return "".join((f"{answer.given.name}:\n" if len(answers) > 1 else "") + answer.listing for answer in answers)
+
+
+def as_table(answers):
+    return "\n".join("".join(f"{line}\n" for line in month_lines(answer)) for answer in answers)
+
+
+def month_lines(answer):
+    given, refused = answer.given, answer.refused
+    if refused:
+        lines = [f"{given.name}: refused by {refused.number}: {refused.words}"]
+        return lines + ([f"{given.byte_words(refused.byte)}{refused.field}"] if refused.field else [])
+    by_row, by_consumer, totals = records_of(answer)
+    parties = [party_cells(row, given.names) for row in Sheet.from_bytes(given.content).rows]
+    rows = [[str(row["row"]), *party, *(parted(row[key]) for key in (
+        "volume", "volume_after_cut", "actual_volume", "price", "payment"))] for row, party in zip(by_row, parties)]
+    rows.append(["", "total paid", *[""] * 5, parted(totals["paid"])])
+    consumers = [[given.names.cell("consumer", consumer["consumer"]), *(parted(consumer[key]) for key in (
+        "contract_volume", "peak", "credit", "percent", "n", "actual_volume", "price", "charge"))]
+        for consumer in by_consumer]
+    consumers.append(["total charged", *[""] * 7, parted(totals["charged"])])
+    return [f"{given.name}: {given.title or month_words(given.content)}", "", *headed(ROW_HEADS, rows, (1, 2)), "",
+            *headed(CONSUMER_HEADS, consumers, (0,))]
+
+
+def headed(heads, lines, left):
+    names, units = zip(*heads)
+    return table_lines(names, [units, *lines], left)
+
+
+def month_words(content):
+    month = Header.from_bytes(content).month
+    return f"{month.days} days from a {WEEKDAYS[month.weekday - 1]}"
+
+
+def parted(text):
+    """A figure with its thousands parted, as 46 599 505.49."""
+    whole, point, part = text.partition(".")
+    return f"{int(whole):,}".replace(",", " ") + point + part
+
+
+def name_in_utf8(answer):
+    """The month's name for programs; a byte of a file's name that is no text is written as \\udcff."""
+    return answer.given.name.encode("utf-8", "backslashreplace").decode()
+
+
+def as_csv(answers):
+    """A line for each record of each month: row, consumer, totals or refusal. What a record does not have is empty."""
+    text = io.StringIO()
+    lines = csv.DictWriter(text, COLUMNS, lineterminator="\n")
+    lines.writeheader()
+    for answer in answers:
+        month, refused = name_in_utf8(answer), answer.refused
+        if refused:
+            lines.writerow({"month": month, "record": "refusal", "refusal": refused.number, "words": refused.words,
+                            "byte": refused.byte, "field": refused.field})
+            continue
+        by_row, by_consumer, totals = records_of(answer)
+        for record, found in (("row", by_row), ("consumer", by_consumer),
+                              ("totals", [{"payment": totals["paid"], "charge": totals["charged"]}])):
+            lines.writerows({"month": month, "record": record, **each} for each in found)
+    return text.getvalue()
+
+
+def as_json(answers):
+    """A list with an object for each month. Figures are strings: a JSON number is often read as a binary fraction."""
+    months = []
+    for answer in answers:
+        rows, consumers, totals = ([], [], None) if answer.refused else records_of(answer)
+        refusal = answer.refused and dict(zip(("number", "words", "byte", "field"), answer.refused))
+        months.append({"month": name_in_utf8(answer), "refusal": refusal, "rows": rows, "consumers": consumers,
+                       "totals": totals})
+    return json.dumps(months, indent=1) + "\n"
+
+
+FORMS = {"listing": as_listing, "table": as_table, "csv": as_csv, "json": as_json}
