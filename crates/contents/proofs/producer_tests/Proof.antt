@@ -41,12 +41,11 @@ loop-less : tie.Need-loop-less Inv-loop μ-loop
 loop-less c = omega arith
 
 loop-again : tie.Need-loop-again Inv-loop μ-loop
-loop-again c =
-    (
-      any-fold _ _ (c .before .before .before .before .before .before .loop .inv .0) (share-stated _ _ (c .before .before .before .producer .ensures) (c .before .before .bad-share .ensures)),
-      any-fold _ _ (c .before .before .before .before .before .before .loop .inv .1) (high-stated _ _ (c .before .before .before .producer .ensures) (c .before .high-stated .ensures) (c .high-hours .ensures)),
-      omega arith,
-    )
+loop-again c = (
+  any-fold _ _ (c .before .before .before .before .before .before .loop .inv .0) (share-stated _ _ (c .before .before .before .producer .ensures) (c .before .before .bad-share .ensures)),
+  any-fold _ _ (c .before .before .before .before .before .before .loop .inv .1) (high-stated _ _ (c .before .before .before .producer .ensures) (c .before .high-stated .ensures) (c .high-hours .ensures)),
+  omega arith,
+)
 
 returns : tie.Need-returns Inv-loop μ-loop
 returns c =

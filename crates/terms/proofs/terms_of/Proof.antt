@@ -48,9 +48,9 @@ returns c =
     let m = monthUnder (a .args .layout) (a .args .s .now) in
     let x = u .before .producer .ensures in
     let sums =
-        c .before .before .k4-sums .ensures .0
-        ∙ k4-inside (a .args .layout) (a .args .s .now) (a .args .p) _ (a .pre .0 .1)
-        ∙ ap (k4Of (a .args .layout .header) (m .producer (a .args .p))) (summed u) in
+    c .before .before .k4-sums .ensures .0
+    ∙ k4-inside (a .args .layout) (a .args .s .now) (a .args .p) _ (a .pre .0 .1)
+    ∙ ap (k4Of (a .args .layout .header) (m .producer (a .args .p))) (summed u) in
     let control = c .before .control-hours .ensures .0 ∙ control-inside (a .args .layout) (a .args .s .now) (a .args .p) (a .pre .0 .1) in
     let ks = c .ks-of .ensures ∙ ks-known (a .args .layout) (a .args .s .now) (a .args .p) x (a .pre .1 .0) sums control in
     let excess = left-stated (a .args .layout) (a .args .s .now) (a .args .p) x (summed u) (c .before .before .before .excess-of .ensures) in
