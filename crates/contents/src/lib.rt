@@ -1,22 +1,23 @@
 // Numbers 8 to 12: the figures of producers, rows and consumers. Each record is read once.
 ghost use mathlib.Core.Path.{_≡_};
 ghost use Rattle.rules.specs.Sheet.{monthUnder};
-ghost use Rattle.rules.specs.Refusals.{figureTests, sheetTests, firstOf};
+ghost use Rattle.rules.specs.Refusals.{badShare, highProducer, figureTests, sheetTests, firstOf};
 ghost use Rattle.contents.specs.Contents.{producerTests, rowTests, consumerTests};
 use ceiling::high_hours;
+use fields::half;
+use fields::word;
 use form::first;
 use form::form_refusal;
+use limits::above_one;
 use limits::bad_factor;
 use limits::bad_reference;
-use limits::bad_share;
 use limits::high_consumer;
-use limits::high_stated;
 use limits::too_dear;
 use limits::too_high;
+use places::producer_at;
 use rules::Layout;
 use sheet::consumer;
 use sheet::layout;
-use sheet::producer;
 use sheet::row;
 
 // What is wrong with some producer: number 8, number 9.
@@ -39,6 +40,28 @@ struct ConsumerTests {
     factor: bool,
 }
 
+// 8, of producer p.
+fn bad_share(s: &[u8], layout: Layout, p: u8) -> bool
+    ensures { λ r. ⌜ r ≡ badShare (layout .header) (monthUnder layout (now (s .entry)) .producer p) ⌝ }
+{
+    let at = producer_at(layout, p);
+    let hours = 24 * (layout.header.days as u16);
+    let late = above_one(word(s, at + 30))
+        | (above_one(word(s, at + 34)) | above_one(word(s, at + 38)));
+    let given = above_one(word(s, at + 18))
+        | (above_one(word(s, at + 22)) | (above_one(word(s, at + 26)) | late));
+    (hours < half(s, at + 12)) | ((hours < half(s, at + 14)) | ((hours < half(s, at + 16)) | given))
+}
+
+// 9, of producer p.
+fn high_producer(s: &[u8], layout: Layout, p: u8) -> bool
+    ensures { λ r. ⌜ r ≡ highProducer (layout .header) (monthUnder layout (now (s .entry)) .producer p) ⌝ }
+{
+    let at = producer_at(layout, p);
+    let own = too_high(word(s, at + 8)) | high_hours(s, layout, p);
+    too_high(word(s, at)) | (too_high(word(s, at + 4)) | own)
+}
+
 fn producer_tests(s: &[u8], layout: Layout) -> ProducerTests
     ensures { λ r. ⌜ r ≡ producerTests (monthUnder layout (now (s .entry))) ⌝ }
 {
@@ -46,9 +69,8 @@ fn producer_tests(s: &[u8], layout: Layout) -> ProducerTests
     let mut high = false;
     let mut p: u8 = 0;
     while p < layout.header.producers {
-        let x = producer(s, layout, p);
-        share = share | bad_share(layout.header, x);
-        high = high | (high_stated(x) | high_hours(s, layout, p));
+        share = share | bad_share(s, layout, p);
+        high = high | high_producer(s, layout, p);
         p += 1;
     }
     ProducerTests { share, high }

@@ -1,10 +1,8 @@
-// The limits that one figure, producer, row or consumer keeps to: numbers 8 to 12, each of one record.
+// The limits that one figure, row or consumer keeps to: numbers 8 to 12, each of one record.
 ghost use mathlib.Core.Path.{_≡_};
 ghost use lib.Dec.{ltb};
 ghost use Rattle.rules.specs.Units.{one};
-ghost use Rattle.rules.specs.Sheet.{producerOf};
-ghost use Rattle.rules.specs.Refusals.{badShare, tooHigh, highConsumer, badReference, tooDear, badFactor};
-ghost use Rattle.limits.specs.Stated.{noHour, highStated};
+ghost use Rattle.rules.specs.Refusals.{tooHigh, highConsumer, badReference, tooDear, badFactor};
 use figures::Capacity;
 use figures::ONE;
 use figures::Price;
@@ -13,7 +11,6 @@ use figures::Tiyn;
 use rules::Consumer;
 use rules::Header;
 use rules::Row;
-use rules::Stated;
 
 // 9, of one figure.
 pub fn too_high(tenths: u32) -> bool
@@ -42,23 +39,6 @@ pub fn above_one(k: u32) -> bool
     ensures { λ r. ⌜ r ≡ ltb one k ⌝ }
 {
     ONE < k as u64
-}
-
-// 8, of one producer.
-pub fn bad_share(h: Header, x: Stated) -> bool
-    ensures { λ r. ⌜ r ≡ badShare h (producerOf x noHour) ⌝ }
-{
-    let hours = 24 * (h.days as u16);
-    let late = above_one(x.k8) | (above_one(x.k9) | above_one(x.k10));
-    let given = above_one(x.k3) | (above_one(x.k6) | (above_one(x.k7) | late));
-    (hours < x.noUpwardBid) | ((hours < x.noDownwardBid) | ((hours < x.noPlan) | given))
-}
-
-// 9, of one producer without its hours.
-pub fn high_stated(x: Stated) -> bool
-    ensures { λ r. ⌜ r ≡ highStated x ⌝ }
-{
-    too_high(x.attested) | (too_high(x.deductible) | too_high(x.ownNeeds))
 }
 
 // 10, of one row.

@@ -5,7 +5,6 @@ use Rattle.rules.specs.Month.{Header, Hour, Producer, Row, Consumer, Mon
 use Rattle.rules.specs.Fields.{bigEndian}
 -- The version and the header: the struct Layout of src/lib.rt. Widths and places go by it, and nothing else does.
 pub use Rattle.rules.specs.declared.Layout.{Layout}
-use Rattle.rules.specs.declared.Stated.{Stated}
 
 -- The header's width.
 abbrev pub headerWidth : ℕ
@@ -76,9 +75,9 @@ sheetLength l = consumerAt l (l .header .consumers)
 abbrev pub hourOf : List ℕ → ℕ → Hour
 hourOf s at = record { working = bigEndian 4 s at; possible = bigEndian 4 s (at + 4); outside = bigEndian 4 s (at + 8) }
 
--- The stated figures of the producer that begins at a place: the struct Stated of src/lib.rt.
-abbrev pub statedOf : List ℕ → ℕ → Stated
-statedOf s at =
+-- The producer whose figures begin at a place, with the place of each of its hours.
+abbrev pub producerOf : List ℕ → ℕ → (ℕ → ℕ) → Producer
+producerOf s at hour =
     record {
       attested = bigEndian 4 s at;
       deductible = bigEndian 4 s (at + 4);
@@ -92,27 +91,9 @@ statedOf s at =
       k8 = bigEndian 4 s (at + 30);
       k9 = bigEndian 4 s (at + 34);
       k10 = bigEndian 4 s (at + 38);
-    }
-
--- A producer by its stated figures and the powers of each hour.
-abbrev pub producerOf : Stated → (ℕ → Hour) → Producer
-producerOf x hour =
-    record {
-      attested = x .attested;
-      deductible = x .deductible;
-      ownNeeds = x .ownNeeds;
-      noUpwardBid = x .noUpwardBid;
-      noDownwardBid = x .noDownwardBid;
-      noPlan = x .noPlan;
-      k3 = x .k3;
-      k6 = x .k6;
-      k7 = x .k7;
-      k8 = x .k8;
-      k9 = x .k9;
-      k10 = x .k10;
-      working = λ i. hour i .working;
-      possible = λ i. hour i .possible;
-      outsideUse = λ i. hour i .outside;
+      working = λ i. hourOf s (hour i) .working;
+      possible = λ i. hourOf s (hour i) .possible;
+      outsideUse = λ i. hourOf s (hour i) .outside;
     }
 
 -- The row whose figures begin at a place.
@@ -137,7 +118,7 @@ abbrev pub monthUnder : Layout → List ℕ → Month
 monthUnder l s =
     record {
       header = l .header;
-      producer = λ p. producerOf (statedOf s (producerAt l p)) (λ i. hourOf s (hourAt l p i));
+      producer = λ p. producerOf s (producerAt l p) (hourAt l p);
       row = λ j. rowOf s (rowAt l j);
       consumer = λ c. consumerOf s (consumerAt l c);
     }

@@ -18,23 +18,6 @@ pub struct Layout {
     pub header: Header,
 }
 
-// A producer's stated figures: attested capacity, deductible capacity and greatest own needs, in tenths of a megawatt; hours without an
-// upward bid, without a downward bid, without a plan; the given coefficients, in millionths.
-pub struct Stated {
-    pub attested: u32,
-    pub deductible: u32,
-    pub ownNeeds: u32,
-    pub noUpwardBid: u16,
-    pub noDownwardBid: u16,
-    pub noPlan: u16,
-    pub k3: u32,
-    pub k6: u32,
-    pub k7: u32,
-    pub k8: u32,
-    pub k9: u32,
-    pub k10: u32,
-}
-
 // An hour of a producer: working, possible and outside-use power, in tenths of a megawatt.
 pub struct Hour {
     pub working: u32,

@@ -1,18 +1,15 @@
-// What a sheet says in its version and its header, of its producers, its rows and its consumers.
+// What a sheet says in its version, its header, its rows and its consumers.
 ghost use mathlib.Core.Path.{_≡_};
 ghost use Prim.Native.Nat.{_≤_};
-ghost use Rattle.rules.specs.Sheet.{headerOf, layoutOf, producerAt, rowAt, consumerAt, statedOf, rowOf, consumerOf};
+ghost use Rattle.rules.specs.Sheet.{headerOf, layoutOf, rowAt, consumerAt, rowOf, consumerOf};
 use fields::byte;
-use fields::half;
 use fields::word;
 use places::consumer_at;
-use places::producer_at;
 use places::row_at;
 use rules::Consumer;
 use rules::Header;
 use rules::Layout;
 use rules::Row;
-use rules::Stated;
 
 // The header's month and counts.
 pub fn header(s: &[u8]) -> Header
@@ -37,39 +34,6 @@ pub fn layout(s: &[u8]) -> Layout
         version: byte(s, 4),
         header: h,
     }
-}
-
-// A producer's stated figures near the sheet's end: a byte past the end counts as 0.
-fn stated_near_end(s: &[u8], at: usize) -> Stated
-    requires { ⌜ at ≤ 20000000 ⌝ }
-    ensures { λ r. ⌜ r ≡ statedOf (now (s .entry)) at ⌝ }
-{
-    Stated {
-        attested: word(s, at),
-        deductible: word(s, at + 4),
-        ownNeeds: word(s, at + 8),
-        noUpwardBid: half(s, at + 12),
-        noDownwardBid: half(s, at + 14),
-        noPlan: half(s, at + 16),
-        k3: word(s, at + 18),
-        k6: word(s, at + 22),
-        k7: word(s, at + 26),
-        k8: word(s, at + 30),
-        k9: word(s, at + 34),
-        k10: word(s, at + 38),
-    }
-}
-
-// Producer p's stated figures. One part of the sheet is lent for them, so that each is one load.
-pub fn producer(s: &[u8], layout: Layout, p: u8) -> Stated
-    ensures { λ r. ⌜ r ≡ statedOf (now (s .entry)) (producerAt layout p) ⌝ }
-{
-    let at = producer_at(layout, p);
-    let stated_end = at + 42;
-    if s.len() < stated_end {
-        return stated_near_end(s, at);
-    }
-    stated_near_end(&s[at..stated_end], 0)
 }
 
 // A row near the sheet's end: a byte past the end counts as 0.

@@ -8,38 +8,21 @@ use borrow.Author.Tests.{ltb-true, ltb-false, lt-ltb, le-ltb}
 use lib.Dec.{ltb}
 use lib.ListN.{length, getD, set, replicate}
 use Rattle.rules.specs.declared.Layout.{Layout}
-use Rattle.rules.specs.declared.Stated.{Stated}
 use Rattle.rules.specs.Month.{Month}
-use Rattle.rules.specs.Sheet.{sheetLength, producerAt, statedOf, monthUnder}
+use Rattle.rules.specs.Sheet.{sheetLength, monthUnder}
 use Rattle.rules.specs.Limits.{HeaderLimits}
 use Rattle.rules.specs.Cut.{ownVolume, supportVolume, bilateralVolume, summedCapacity, excess, leftToCut}
-use Rattle.rules.specs.ControlHours.{controlAverage}
-use Rattle.rules.specs.Coefficients.{overuse, penalty, k1, k2, k4, k5, inOrder, coefficients}
 use Rattle.laws.proofs.Range.{sum-none}
 use Rattle.laws.proofs.Arrays.{Agrees, agrees-filled, agrees-set}
 use Rattle.volumes.specs.declared.Volumes.{Volumes}
 use Rattle.volumes.specs.Volumes.{Fits, volumesOf, noVolumes}
-use Rattle.hours.specs.declared.K4.{K4}
-use Rattle.hours.specs.Sums.{k4Of}
-use Rattle.control.specs.declared.Control.{Control}
-use Rattle.control.specs.Control.{controlOf}
 use Rattle.terms.specs.declared.Terms.{Terms}
-use Rattle.terms.specs.Terms.{ksFrom, termsAt, noTerms, zeroTerms, withTerms, termsBelow, termsOf, Known}
+use Rattle.terms.specs.Terms.{termsAt, noTerms, zeroTerms, withTerms, termsBelow, termsOf, Known}
 
 pub summed-is : (m : Month) (p : ℕ) (v : Volumes) (d : ℕ) → v ≡ volumesOf m p → d ≡ m .producer p .deductible
     → v .support .0 + v .bilateral .0 + d ≡ summedCapacity m p
 unfolding summedCapacity
 summed-is m p v d e q = rw (e, q)
-
--- k1 to k10 from a producer's stated figures, volumes, sums and control hours.
-pub ks-known : (l : Layout) (s : List ℕ) (p : ℕ) {x : Stated} {v : Volumes} {sums : K4} {control : Control}
-    → x ≡ statedOf s (producerAt l p)
-    → v ≡ volumesOf (monthUnder l s) p
-    → sums ≡ k4Of (l .header) (monthUnder l s .producer p) (summedCapacity (monthUnder l s) p)
-    → control ≡ controlOf (l .header) (monthUnder l s .producer p .outsideUse)
-    → ksFrom (l .header) x v sums control ≡ coefficients (monthUnder l s) p
-unfolding coefficients inOrder k1 penalty overuse controlAverage k2 k4 k5
-ks-known l s p stated volumes sums control = rw (stated, volumes, sums, control)
 
 -- An array with the volumes of six producers, which fit.
 abbrev pub VolumesKnown : Month → List Volumes → Type 0
@@ -49,14 +32,6 @@ VolumesKnown m vs = Agrees 6 noVolumes (volumesOf m) vs × ((p : ℕ) → p < 6 
 pub left-first : (m : Month) (p : ℕ) → leftToCut m p 0 ≡ summedCapacity m p - m .producer p .ownNeeds - m .producer p .attested
 unfolding leftToCut excess
 left-first m p = omega (arith, sum-none (ownVolume m p))
-
--- So it is what S leaves over stated own needs and attested capacity.
-pub left-stated : (l : Layout) (s : List ℕ) (p : ℕ) {x : Stated} {n e : ℕ}
-    → x ≡ statedOf s (producerAt l p)
-    → n ≡ summedCapacity (monthUnder l s) p
-    → e ≡ n - x .ownNeeds - x .attested
-    → e ≡ leftToCut (monthUnder l s) p 0
-left-stated l s p stated summed excess = rw (excess, summed, stated, left-first (monthUnder l s) p)
 
 -- The terms of no producer, and of one more.
 pub known-none : (m : Month) → Known m 0 0 (replicate 6 zeroTerms)

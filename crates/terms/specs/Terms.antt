@@ -1,20 +1,15 @@
 -- What a producer's rows are settled by: what is left to cut of them, and k1 to k10.
-use Prim.Native.Nat.{ℕ, _-_, _*_, min, max}
+use Prim.Native.Nat.{ℕ, _-_, min}
 use mathlib.Core.Bool.{cond, _||_}
-use mathlib.Core.List.{List, [], _∷_}
+use mathlib.Core.List.{List, []}
 use lib.ListN.{length, replicate}
 use lib.Dec.{ltb}
-use Rattle.rules.specs.declared.Header.{Header}
 use Rattle.rules.specs.declared.Layout.{Layout}
-use Rattle.rules.specs.declared.Stated.{Stated}
-use Rattle.rules.specs.Month.{Month, hours}
+use Rattle.rules.specs.Month.{Month}
 use Rattle.rules.specs.Sheet.{sheetLength, monthUnder}
 use Rattle.rules.specs.Cut.{leftToCut}
 use Rattle.rules.specs.ControlHours.{average}
-use Rattle.rules.specs.Bands.{bandOf, thousandths}
-use Rattle.rules.specs.Coefficients.{share, lessPenalty, coefficients}
-use Rattle.volumes.specs.declared.Volumes.{Volumes}
-use Rattle.hours.specs.declared.K4.{K4}
+use Rattle.rules.specs.Coefficients.{coefficients}
 use Rattle.control.specs.declared.Control.{Control}
 use Rattle.laws.proofs.Arrays.{Agrees}
 use Rattle.figures.specs.Sums.{tenths}
@@ -23,21 +18,6 @@ use Rattle.terms.specs.declared.Terms.{Terms}
 -- D of k1, from the control hours and the deductible capacity. [Coefficients, k1]
 abbrev pub overOf : Control → ℕ → ℕ
 overOf control deductible = average (control .counted .0) (control .count) - deductible
-
--- k1 to k10 in order, from the stated figures, T, the sums of k4 and the control hours. [Coefficients]
-abbrev pub ksFrom : Header → Stated → Volumes → K4 → Control → List ℕ
-ksFrom h x v sums control =
-    lessPenalty (v .support .0) (bandOf (thousandths (overOf control (x .deductible)) (x .deductible)) * overOf control (x .deductible))
-    ∷ share (hours h - max (x .noUpwardBid) (x .noDownwardBid)) (hours h)
-    ∷ x .k3
-    ∷ share (sums .met .0) (sums .asked .0)
-    ∷ share (hours h - x .noPlan) (hours h)
-    ∷ x .k6
-    ∷ x .k7
-    ∷ x .k8
-    ∷ x .k9
-    ∷ x .k10
-    ∷ []
 
 -- Producer p when row j's turn comes. [Cut; Coefficients]
 abbrev pub termsAt : Month → ℕ → ℕ → Terms

@@ -11,24 +11,24 @@ ghost use Rattle.laws.proofs.Arrays.{Agrees};
 ghost use Rattle.volumes.specs.Volumes.{Fits, mostVolume, volumesOf};
 ghost use Rattle.hours.specs.Sums.{k4Of};
 ghost use Rattle.control.specs.Control.{controlOf};
-ghost use Rattle.terms.specs.Terms.{overOf, ksFrom, termsAt, termsOf, noTerms, withTerms};
+ghost use Rattle.terms.specs.Terms.{overOf, termsAt, termsOf, noTerms, withTerms};
 use coefficients::bids;
 use coefficients::overuse;
 use coefficients::penalty;
 use coefficients::plans;
 use control::Control;
 use control::control_hours;
+use fields::half;
+use fields::word;
 use figures::ONE;
 use figures::Tenths;
 use figures::less;
 use figures::nearest;
 use hours::K4;
 use hours::k4_sums;
+use places::producer_at;
 use places::sheet_length;
-use rules::Header;
 use rules::Layout;
-use rules::Stated;
-use sheet::producer;
 use volumes::Volumes;
 use volumes::row_volumes;
 
@@ -80,24 +80,36 @@ fn k4_of(sums: K4) -> u64
     nearest(met.0 * ONE, asked.0)
 }
 
-// k1 to k10 of a producer with these stated figures, volumes, sums of k4 and control hours.
-fn ks_of(h: Header, x: Stated, v: Volumes, sums: K4, control: Control) -> [u64; 10]
-    requires { ⌜ (h .days ≤ 31) × (v .support .0 ≤ mostVolume) ⌝ }
-    requires { ⌜ (sums .met .0 ≤ 4294967295 * hours h) × (control .counted .0 ≤ 4294967295 * control .count) ⌝ }
-    ensures { λ r. ⌜ r ≡ ksFrom h x v sums control ⌝ }
+// k1 to k10 of producer p, whose figures begin at a place.
+fn ks_of(
+    s: &[u8],
+    layout: Layout,
+    p: u8,
+    at: usize,
+    v: Volumes,
+    sums: K4,
+    control: Control,
+) -> [u64; 10]
+    requires { ⌜ (layout .header .days ≤ 31) × (at ≡ producerAt layout p) × (at ≤ 20000000) ⌝ }
+    requires { ⌜ (v ≡ volumesOf (monthUnder layout (now s)) p) × (v .support .0 ≤ mostVolume) ⌝ }
+    requires { ⌜ (sums ≡ k4Of (layout .header) (monthUnder layout (now s) .producer p) (summedCapacity (monthUnder layout (now s)) p))
+        × (sums .met .0 ≤ 4294967295 * hours (layout .header)) ⌝ }
+    requires { ⌜ (control ≡ controlOf (layout .header) (monthUnder layout (now s) .producer p .outsideUse))
+        × (control .counted .0 ≤ 4294967295 * control .count) ⌝ }
+    ensures { λ r. ⌜ r ≡ coefficients (monthUnder layout (now (s .entry))) p ⌝ }
 {
-    let hours = 24 * (h.days as u32);
+    let hours = 24 * (layout.header.days as u32);
     [
-        k1_of(control, x.deductible, v.support),
-        bids(hours, x.noUpwardBid, x.noDownwardBid),
-        x.k3 as u64,
+        k1_of(control, word(s, at + 4), v.support),
+        bids(hours, half(s, at + 12), half(s, at + 14)),
+        word(s, at + 18) as u64,
         k4_of(sums),
-        plans(hours, x.noPlan),
-        x.k6 as u64,
-        x.k7 as u64,
-        x.k8 as u64,
-        x.k9 as u64,
-        x.k10 as u64,
+        plans(hours, half(s, at + 16)),
+        word(s, at + 22) as u64,
+        word(s, at + 26) as u64,
+        word(s, at + 30) as u64,
+        word(s, at + 34) as u64,
+        word(s, at + 38) as u64,
     ]
 }
 
@@ -126,12 +138,12 @@ fn terms_of(s: &[u8], layout: Layout, p: u8, v: Volumes) -> Terms
     requires { ⌜ (v ≡ volumesOf (monthUnder layout (now s)) p) × Fits v ⌝ }
     ensures { λ r. ⌜ r ≡ termsAt (monthUnder layout (now (s .entry))) p 0 ⌝ }
 {
-    let x = producer(s, layout, p);
-    let summed = summed_of(v, x.deductible);
-    let excess = excess_of(summed, x.ownNeeds, x.attested);
+    let at = producer_at(layout, p);
+    let summed = summed_of(v, word(s, at + 4));
+    let excess = excess_of(summed, word(s, at + 8), word(s, at));
     let sums = k4_sums(s, layout, p, summed);
     let control = control_hours(s, layout, p);
-    let ks = ks_of(layout.header, x, v, sums, control);
+    let ks = ks_of(s, layout, p, at, v, sums, control);
     Terms { excess, ks }
 }
 

@@ -6,7 +6,6 @@ use Rattle.rules.specs.Range.{any}
 use Rattle.rules.specs.Sheet.{monthUnder}
 use Rattle.laws.proofs.Range.{any-start, any-fold, any-done}
 use Rattle.rules.specs.Refusals.{badShare, highProducer}
-use Rattle.contents.proofs.Stated.{share-stated, high-stated}
 use Rattle.contents.proofs.producer_tests.Statement.{statement}
 use Rattle.contents.proofs.producer_tests.Tie as tie
 
@@ -22,17 +21,11 @@ abbrev μ-loop : tie.MeasureT-loop
 loop-holds : tie.Need-loop-holds Inv-loop μ-loop
 loop-holds c = (sym (any-start _), sym (any-start _), zero-le)
 
-producer-requires : tie.Need-producer-requires Inv-loop μ-loop
-producer-requires c κs = search needs
-
 bad-share-requires : tie.Need-bad-share-requires Inv-loop μ-loop
 bad-share-requires c κs = search needs
 
-high-stated-requires : tie.Need-high-stated-requires Inv-loop μ-loop
-high-stated-requires c κs = search needs
-
-high-hours-requires : tie.Need-high-hours-requires Inv-loop μ-loop
-high-hours-requires c κs = search needs
+high-producer-requires : tie.Need-high-producer-requires Inv-loop μ-loop
+high-producer-requires c κs = search needs
 
 add-p : tie.Need-add-p Inv-loop μ-loop
 add-p c = omega arith
@@ -41,11 +34,7 @@ loop-less : tie.Need-loop-less Inv-loop μ-loop
 loop-less c = omega arith
 
 loop-again : tie.Need-loop-again Inv-loop μ-loop
-loop-again c = (
-  any-fold _ _ (c .before .before .before .before .before .before .loop .inv .0) (share-stated _ _ (c .before .before .before .producer .ensures) (c .before .before .bad-share .ensures)),
-  any-fold _ _ (c .before .before .before .before .before .before .loop .inv .1) (high-stated _ _ (c .before .before .before .producer .ensures) (c .before .high-stated .ensures) (c .high-hours .ensures)),
-  omega arith,
-)
+loop-again c = (any-fold _ _ (c .before .before .before .before .loop .inv .0) (c .before .bad-share .ensures), any-fold _ _ (c .before .before .before .before .loop .inv .1) (c .high-producer .ensures), omega arith)
 
 returns : tie.Need-returns Inv-loop μ-loop
 returns c =
@@ -61,10 +50,8 @@ producer-tests-spec =
     Inv-loop
     μ-loop
     loop-holds
-    producer-requires
     bad-share-requires
-    high-stated-requires
-    high-hours-requires
+    high-producer-requires
     add-p
     loop-less
     loop-again
