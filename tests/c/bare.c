@@ -1,6 +1,6 @@
 /*
- * Settles the example sheet in a program that has no C library. The archive needs memset, which stands here; memcpy stands beside it,
- * since a compiler may call it where this file copies. The status is 0 if answer and result are right. Linux on x86-64.
+ * Settles the example sheet in a program that has no C library. The archive needs memcpy and memset, which stand here.
+ * The status is 0 if answer and result are right. Linux on x86-64.
  */
 #include "capacity.h"
 #include "example.h"
