@@ -1,8 +1,8 @@
 // The band table, and the thousandths that it is read by.
 ghost use mathlib.Core.Path.{_≡_};
 ghost use Rattle.rules.specs.Bands.{thousandths, factorOf, bandOf};
-use figures::nearest;
 use rules::Band;
+use units::nearest;
 
 // An excess in thousandths of a reference; over a reference of 0 any excess is past the fourth band.
 pub fn thousandths(excess: u32, reference: u32) -> u64

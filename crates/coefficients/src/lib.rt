@@ -6,9 +6,9 @@ ghost use Rattle.rules.specs.Bands.{bandOf, thousandths};
 ghost use Rattle.rules.specs.Coefficients.{share};
 use bands::factor;
 use bands::thousandths;
-use figures::Tenths;
-use figures::nearest;
-use figures::share;
+use units::Tenths;
+use units::nearest;
+use units::share;
 
 // D of k1.
 pub fn overuse(counted: Tenths, count: u64, deductible: Tenths) -> Tenths

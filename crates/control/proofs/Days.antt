@@ -16,7 +16,7 @@ use Rattle.laws.proofs.Range.{sum-none, sum-more, sum-fold, sum-same}
 use Rattle.laws.proofs.Fields.{read-part}
 use Rattle.laws.proofs.ControlHours.{evening, control-by-day, count-by-day}
 use Rattle.places.proofs.Hours.{hour-there}
-use Rattle.figures.specs.Sums.{tenths}
+use Rattle.units.specs.Sums.{tenths}
 use Rattle.control.specs.declared.Control.{Control}
 use Rattle.control.specs.Control.{controlOf}
 

@@ -8,7 +8,7 @@ use Rattle.rules.specs.declared.Header.{Header}
 use Rattle.rules.specs.declared.Layout.{Layout}
 use Rattle.rules.specs.Sheet.{hourAt, hoursWidth, monthUnder}
 use Rattle.rules.specs.ControlHours.{controlSum, controlCount}
-use Rattle.figures.specs.Sums.{tenths}
+use Rattle.units.specs.Sums.{tenths}
 use Rattle.control.specs.declared.Control.{Control}
 
 -- The sum of an hourly series over the control hours, and their count.

@@ -7,9 +7,9 @@ ghost use Rattle.rules.specs.Sheet.{hourAt, hoursWidth, hourOf, monthUnder};
 ghost use Rattle.control.specs.Control.{controlOf, controlIn};
 use calendar::control_day;
 use fields::word;
-use figures::Tenths;
 use places::hours_at;
 use rules::Layout;
+use units::Tenths;
 
 // The outside use of a producer's control hours in all, and how many hours these are.
 pub struct Control {

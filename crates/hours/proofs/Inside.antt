@@ -7,7 +7,7 @@ use borrow.Author.Tests.{lt-ltb, le-ltb}
 use Rattle.rules.specs.declared.Layout.{Layout}
 use Rattle.rules.specs.Month.{hours}
 use Rattle.rules.specs.Sheet.{hourAt, hoursWidth, monthUnder}
-use Rattle.figures.specs.Sums.{tenths}
+use Rattle.units.specs.Sums.{tenths}
 use Rattle.hours.specs.declared.K4.{K4}
 use Rattle.hours.specs.Sums.{K4Before, k4Of, k4In}
 

@@ -11,7 +11,7 @@ use Rattle.rules.specs.Range.{sum}
 use Rattle.rules.specs.Month.{Producer, hours}
 use Rattle.rules.specs.Sheet.{hourAt, hoursWidth, monthUnder}
 use Rattle.rules.specs.Coefficients.{asked, met}
-use Rattle.figures.specs.Sums.{tenths}
+use Rattle.units.specs.Sums.{tenths}
 use Rattle.hours.specs.declared.K4.{K4}
 
 -- The sums of the hours before hour n, and that they fit.

@@ -6,10 +6,10 @@ ghost use Rattle.rules.specs.Month.{hours};
 ghost use Rattle.rules.specs.Sheet.{hourAt, hoursWidth, hourOf, monthUnder};
 ghost use Rattle.hours.specs.Sums.{K4Before, k4In};
 use fields::word;
-use figures::Tenths;
 use places::hours_at;
 use rules::Hour;
 use rules::Layout;
+use units::Tenths;
 
 // Over the hours: m, and what was met of it (k4).
 pub struct K4 {

@@ -18,6 +18,6 @@ pub mod Samples
 pub mod Open
 pub mod CheckedMonths
 pub mod Slips
-pub mod Listing
+pub mod ListingCase
 pub mod RefusalCases
-pub mod Places
+pub mod PlaceCases

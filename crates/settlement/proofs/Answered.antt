@@ -10,7 +10,7 @@ use Rattle.rules.specs.Result.{resultLength}
 use Rattle.rules.specs.Refusals.{frontTests, headerTests, formTests, roomTests, figureTests, tests, applies, firstOf, refusal}
 use Rattle.rules.specs.Outcome.{refused, written, outcome, bufferAfter}
 use Rattle.laws.proofs.Refusals.{none-applies, first-stands, first-next, not-true, front-numbered}
-use Rattle.month.specs.Numbers.{monthNumber, monthAfter}
+use Rattle.result.specs.Numbers.{monthNumber, monthAfter}
 
 module _ (s : List ℕ) (room : ℕ) where
   -- The tests past the first three, with the length that the sheet states.

@@ -4,10 +4,10 @@ ghost use lib.ListN.{length};
 ghost use Prim.Native.Nat.{_+_};
 ghost use Rattle.rules.specs.Outcome.{outcome, bufferAfter, hoursStretch, within};
 ghost use Rattle.settlement.specs.Said.{said, inC};
-use form::front_refusal;
-use form::producer_hours;
-use month::settle_month;
 use places::result_length;
+use refusals_form::front_refusal;
+use refusals_form::producer_hours;
+use result::settle_month;
 
 // What a settlement answers: a refusal with its number, or the count of bytes written.
 pub enum Answer {

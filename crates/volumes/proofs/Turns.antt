@@ -14,7 +14,7 @@ use Rattle.rules.specs.Cut.{owns, support, bilateral, ownSupport, ownBilateral}
 use Rattle.laws.proofs.Range.{sum-none, sum-more, when-le}
 use Rattle.laws.proofs.Arrays.{Agrees, agrees-as, agrees-filled, agrees-set}
 use Rattle.volumes.specs.declared.Volumes.{Volumes}
-use Rattle.figures.specs.Sums.{tenths}
+use Rattle.units.specs.Sums.{tenths}
 use Rattle.volumes.specs.Volumes.{Fits, noVolumes, withRow}
 
 -- T and B over the first j rows.

@@ -6,7 +6,7 @@ use Rattle.rules.specs.declared.Row.{Row}
 use Rattle.rules.specs.Range.{when}
 use Rattle.rules.specs.Month.{Month}
 use Rattle.rules.specs.Cut.{supportVolume, bilateralVolume}
-use Rattle.figures.specs.Sums.{tenths}
+use Rattle.units.specs.Sums.{tenths}
 use Rattle.volumes.specs.declared.Volumes.{Volumes}
 
 -- What a producer's rows of one kind come to at most, whatever the bytes: 255 rows of the largest volume that four bytes hold.

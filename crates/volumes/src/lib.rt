@@ -5,10 +5,10 @@ ghost use lib.ListN.{getD};
 ghost use Rattle.rules.specs.Sheet.{monthUnder};
 ghost use Rattle.laws.proofs.Arrays.{Agrees};
 ghost use Rattle.volumes.specs.Volumes.{Fits, volumesOf, noVolumes, withRow};
-use figures::Tenths;
 use rules::Layout;
 use rules::Row;
 use sheet::row;
+use units::Tenths;
 
 // The volumes of a producer's support rows (T) and bilateral rows (B).
 pub struct Volumes {

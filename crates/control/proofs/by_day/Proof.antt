@@ -3,8 +3,8 @@ use mathlib.Core.Path.{_≡_, sym, ap, _∙_}
 use mathlib.Core.Logic.{⊎-elim}
 use Prim.Native.Nat.{_+_, _-_, _*_, _≤_, zero-le}
 use Rattle.rules.specs.Sheet.{monthUnder}
-use Rattle.figures.specs.Sums.{tenths}
-use Rattle.figures.proofs.Adding.{added-exact}
+use Rattle.units.specs.Sums.{tenths}
+use Rattle.units.proofs.Adding.{added-exact}
 use Rattle.control.proofs.Days.{evening-there, SoFar, none-yet, control-more, other-more, all-days}
 use borrow.Author.Needs.{needs}
 use Rattle.control.proofs.by_day.Statement.{statement}

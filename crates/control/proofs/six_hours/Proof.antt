@@ -4,7 +4,7 @@ use Prim.Native.Nat.{_+_, _-_, _*_, _≤_, zero-le}
 use Rattle.rules.specs.Range.{sum}
 use Rattle.rules.specs.Sheet.{hourOf}
 use Rattle.laws.proofs.Range.{sum-none, sum-fold, sum-done}
-use Rattle.figures.proofs.Adding.{added-exact}
+use Rattle.units.proofs.Adding.{added-exact}
 use Rattle.control.proofs.Days.{outside-read}
 use borrow.Author.Needs.{needs}
 use Rattle.control.proofs.six_hours.Statement.{statement}

@@ -2,7 +2,7 @@ use native.Mathlib.Omega.{arith}
 use mathlib.Core.Path.{_≡_, ap, _∙_}
 use Prim.Native.Nat.{ℕ, _+_, min}
 use Rattle.laws.proofs.Range.{sum-fold}
-use Rattle.figures.proofs.Adding.{added-exact}
+use Rattle.units.proofs.Adding.{added-exact}
 use Rattle.hours.proofs.Turns.{asked-there, met-there}
 use borrow.Author.Needs.{needs}
 use Rattle.hours.proofs.with_hour.Statement.{statement}

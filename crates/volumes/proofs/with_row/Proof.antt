@@ -3,8 +3,8 @@ use native.Mathlib.Nat.{add-zero}
 use native.Mathlib.Omega.{arith}
 use borrow.Author.Tests.{eq-eqb, ne-eqb}
 use Rattle.rules.specs.Range.{when}
-use Rattle.figures.specs.Sums.{tenths}
-use Rattle.figures.proofs.Adding.{added-exact}
+use Rattle.units.specs.Sums.{tenths}
+use Rattle.units.proofs.Adding.{added-exact}
 use Rattle.volumes.specs.Volumes.{withRow}
 use borrow.Author.Needs.{needs}
 use Rattle.volumes.proofs.with_row.Statement.{statement}

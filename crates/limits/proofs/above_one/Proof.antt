@@ -1,9 +1,0 @@
-use mathlib.Core.Path.{refl}
-use Rattle.limits.proofs.above_one.Statement.{statement}
-use Rattle.limits.proofs.above_one.Tie as tie
-
-returns : tie.Need-returns
-returns c = refl
-
-pub above-one-spec : {M : Type 1} → statement M
-above-one-spec = tie.close (tie.spec returns)

@@ -1,0 +1,97 @@
+use borrow.Author.Needs.{needs}
+use native.Mathlib.Omega.{arith}
+use mathlib.Core.Path.{_≡_}
+use Prim.Native.Nat.{_-_, _≤_, _<_, zero-le}
+use native.Mathlib.Nat.{le-trans}
+use lib.ListN.{length}
+use Rattle.rules.specs.Sheet.{sheetLength, monthUnder}
+use Rattle.laws.proofs.Sheet.{hours-inside}
+use Rattle.producers.specs.Terms.{withTerms, Known}
+use Rattle.producers.proofs.Cuts.{VolumesKnown, known-none, known-more}
+use Rattle.producers.proofs.all_terms.Statement.{statement}
+use Rattle.producers.proofs.all_terms.Tie as tie
+
+abbrev Inv-loop : tie.InvT-loop
+Inv-loop s layout of₀ volumes n p₀ of p =
+    Known (monthUnder layout s) 0 p of
+    × (p ≤ n)
+    × VolumesKnown (monthUnder layout s) (volumes .of)
+    × (n ≡ withTerms layout s)
+    × (n ≤ 6)
+    × (0 < n → (layout .header .days ≤ 31) × (n ≤ layout .header .producers) × (sheetLength layout ≤ length s))
+
+abbrev μ-loop : tie.MeasureT-loop
+μ-loop s layout of₀ volumes n p₀ of p = n - p
+
+row-volumes-requires : tie.Need-row-volumes-requires Inv-loop μ-loop
+row-volumes-requires c κs = search needs
+
+with-terms-requires : tie.Need-with-terms-requires Inv-loop μ-loop
+with-terms-requires c κs = search needs
+
+loop-holds : tie.Need-loop-holds Inv-loop μ-loop
+loop-holds c =
+    let n = c .with-terms .ensures in
+    (known-none _, zero-le, c .before .row-volumes .ensures, n .0, n .1, n .2)
+
+cast-i : tie.Need-cast-i Inv-loop μ-loop
+cast-i c = search needs
+
+mul-v : tie.Need-mul-v Inv-loop μ-loop
+mul-v c = search needs
+
+element-copy-out-v : tie.Need-element-copy-out-v Inv-loop μ-loop
+element-copy-out-v c = omega arith
+
+terms-of-requires : tie.Need-terms-of-requires Inv-loop μ-loop
+terms-of-requires c κs =
+    let inv = c .before .before .loop .inv in
+    let some = inv .5 (omega arith) in
+    let p : c .before .before .loop .p < 6 = omega arith in
+    let h = c .before .before .before .before .before .before .args .layout in (
+      (some .0, le-trans (hours-inside h (c .before .before .loop .p) (omega (arith, some .1))) (some .2)),
+      (inv .2 .0 .each _ p, inv .2 .1 _ p),
+    )
+
+mul-of : tie.Need-mul-of Inv-loop μ-loop
+mul-of c = search needs
+
+array-set-from-of : tie.Need-array-set-from-of Inv-loop μ-loop
+array-set-from-of c = omega arith
+
+add-p : tie.Need-add-p Inv-loop μ-loop
+add-p c = omega arith
+
+loop-less : tie.Need-loop-less Inv-loop μ-loop
+loop-less c = omega arith
+
+loop-again : tie.Need-loop-again Inv-loop μ-loop
+loop-again c =
+    let inv = c .before .before .before .loop .inv in
+    (known-more _ _ _ _ (inv .0) (omega arith) (c .terms-of .ensures), omega arith, inv .2, inv .3, inv .4, inv .5)
+
+returns : tie.Need-returns Inv-loop μ-loop
+returns c =
+    let inv = c .before .loop .inv in
+    let end : c .before .loop .p ≡ withTerms (c .before .before .before .before .before .args .layout) (c .before .before .before .before .before .args .s .now) = omega arith in
+    rw end at (inv .0)
+
+pub all-terms-spec : {M : Type 1} → statement M
+all-terms-spec =
+    tie.close
+    (tie.spec
+    Inv-loop
+    μ-loop
+    row-volumes-requires
+    with-terms-requires
+    loop-holds
+    cast-i
+    mul-v
+    element-copy-out-v
+    terms-of-requires
+    mul-of
+    array-set-from-of
+    add-p
+    loop-less
+    loop-again
+    returns)

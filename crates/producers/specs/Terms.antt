@@ -1,0 +1,48 @@
+-- What a producer's rows are settled by: what is left to cut of them, and k1 to k10.
+use Prim.Native.Nat.{ℕ, _-_, min}
+use mathlib.Core.Bool.{cond, _||_}
+use mathlib.Core.List.{List, []}
+use lib.ListN.{length, replicate}
+use lib.Dec.{ltb}
+use Rattle.rules.specs.declared.Layout.{Layout}
+use Rattle.rules.specs.Month.{Month}
+use Rattle.rules.specs.Sheet.{sheetLength, monthUnder}
+use Rattle.rules.specs.Cut.{leftToCut}
+use Rattle.rules.specs.ControlHours.{average}
+use Rattle.rules.specs.Coefficients.{coefficients}
+use Rattle.control.specs.declared.Control.{Control}
+use Rattle.laws.proofs.Arrays.{Agrees}
+use Rattle.units.specs.Sums.{tenths}
+use Rattle.producers.specs.declared.Terms.{Terms}
+
+-- D of k1, from the control hours and the deductible capacity. [Coefficients, k1]
+abbrev pub overOf : Control → ℕ → ℕ
+overOf control deductible = average (control .counted .0) (control .count) - deductible
+
+-- Producer p when row j's turn comes. [Cut; Coefficients]
+abbrev pub termsAt : Month → ℕ → ℕ → Terms
+termsAt m p j = record { excess = tenths (leftToCut m p j); ks = coefficients m p }
+
+-- Past the end of an array of terms.
+abbrev pub noTerms : Terms
+noTerms = record { excess = tenths 0; ks = [] }
+
+-- In the array, where there is no producer: nothing to cut, and coefficients of 0.
+abbrev pub zeroTerms : Terms
+zeroTerms = record { excess = tenths 0; ks = replicate 10 0 }
+
+-- How many producers of a sheet have terms: at most six, and none in a month of more than 31 days or in a sheet that ends too soon.
+unfoldable pub withTerms : Layout → List ℕ → ℕ
+withTerms layout s = cond (ltb 31 (layout .header .days) || ltb (length s) (sheetLength layout)) 0 (min (layout .header .producers) 6)
+
+-- The first n producers when row j's turn comes; past them there are none.
+unfoldable pub termsBelow : Month → ℕ → ℕ → ℕ → Terms
+termsBelow m j n p = cond (ltb p n) (termsAt m p j) zeroTerms
+
+-- In an array of six.
+abbrev pub Known : Month → ℕ → ℕ → List Terms → Type 0
+Known m j n terms = Agrees 6 noTerms (termsBelow m j n) terms
+
+-- Before the first row.
+abbrev pub termsOf : Layout → List ℕ → ℕ → Terms
+termsOf layout s = termsBelow (monthUnder layout s) 0 (withTerms layout s)

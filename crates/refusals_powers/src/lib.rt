@@ -1,0 +1,162 @@
+// Number 9 of powers that stand one after the other, and of a producer's hours. A power is taken as it stands in the machine's word, so
+// that one instruction serves four of them. A block of 72 powers, as many as a producer's day has, is passed while each of its powers has
+// two zero bytes at the front. From the first other block on every power leaves its marks, and the marks of all are tested once.
+ghost use mathlib.Core.Path.{_≡_};
+ghost use mathlib.Core.Bool.{false, _||_};
+ghost use Prim.Native.Nat.{_+_, _*_, _/_, _%_, _^_, _<_, _≤_};
+ghost use lib.ListN.{length};
+ghost use Rattle.rules.specs.Range.{any};
+ghost use Rattle.rules.specs.Month.{hours};
+ghost use Rattle.rules.specs.Fields.{bigEndian};
+ghost use Rattle.rules.specs.Sheet.{monthUnder};
+ghost use Rattle.rules.specs.Refusals.{tooHigh, highHour};
+ghost use Rattle.refusals_powers.specs.Powers.{highPower, highPowers, highFrom};
+ghost use Rattle.refusals_powers.specs.Marks.{marked, Turned};
+use fields::word;
+use places::hours_at;
+use refusals_record::too_high;
+use rules::Layout;
+
+// What powers leave behind: the three front bytes of all, joined, and those of the powers whose last two bytes are above the ceiling's.
+struct Marks {
+    front: u32,
+    above: u32,
+}
+
+fn wide(b: u8) -> u32
+    ensures { λ r. ⌜ (r ≡ b) × (r ≤ 255) ⌝ }
+{
+    b as u32
+}
+
+// The power at a place as it stands in the machine's word, its front byte lowest.
+fn turned(s: &[u8], at: usize) -> u32
+    requires { ⌜ at + 4 ≤ length (now s) ⌝ }
+    ensures { λ r. ⌜ Turned (bigEndian 4 (now (s .entry)) at) r ⌝ }
+{
+    wide(s[at]) + wide(s[at + 1]) * 256 + wide(s[at + 2]) * 65536 + wide(s[at + 3]) * 16777216
+}
+
+// The bits of a block that begins at a place.
+fn bits_on(s: &[u8], at: usize) -> u32
+    requires { ⌜ at + 288 ≤ length (now s) ⌝ }
+    ensures { λ r. ⌜ (r % 65536 ≡ 0 → highFrom (now (s .entry)) at 72 ≡ false) ⌝ }
+{
+    let mut bits: u32 = 0;
+    let mut i: usize = 0;
+    while i < 72 {
+        bits = bits | turned(s, at + 4 * i);
+        i += 1;
+    }
+    bits
+}
+
+// The marks of the power at a place. The ceiling is 65,536 + 34,464: after a front byte of 0 and a second of 1, the last two are a number below
+// 34,465. The sum is 256 times that number and the second byte, and the third byte once more.
+fn marks_at(s: &[u8], at: usize) -> Marks
+    requires { ⌜ at + 4 ≤ length (now s) ⌝ }
+    ensures { λ r. ⌜ marked r ≡ tooHigh (bigEndian 4 (now (s .entry)) at) ⌝ }
+{
+    let w = turned(s, at);
+    let front = w % 16777216;
+    if 256 * 34466 <= front + w / 65536 {
+        return Marks {
+            front,
+            above: front,
+        };
+    }
+    Marks { front, above: 0 }
+}
+
+fn joined(a: Marks, b: Marks) -> Marks
+    ensures { λ r. ⌜ marked r ≡ (marked a || marked b) ⌝ }
+{
+    Marks {
+        front: a.front | b.front,
+        above: a.above | b.above,
+    }
+}
+
+// Marks of a power above the ceiling: a front byte that is not 0, a second above 1, or a second of 1 before last ones that are above.
+fn is_marked(m: Marks) -> bool
+    ensures { λ r. ⌜ r ≡ marked m ⌝ }
+{
+    (0 < m.front % 256) | ((0 < m.front / 512 % 128) | (0 < m.above / 256 % 2))
+}
+
+// The marks of a block that begins at a place.
+fn marks_on(s: &[u8], at: usize) -> Marks
+    requires { ⌜ at + 288 ≤ length (now s) ⌝ }
+    ensures { λ r. ⌜ marked r ≡ highFrom (now (s .entry)) at 72 ⌝ }
+{
+    let mut m = Marks { front: 0, above: 0 };
+    let mut i: usize = 0;
+    while i < 72 {
+        m = joined(m, marks_at(s, at + 4 * i));
+        i += 1;
+    }
+    m
+}
+
+// How many blocks, from the first on, have two zero bytes at the front of every power.
+fn low_blocks(part: &[u8]) -> usize
+    ensures { λ r. ⌜ (r ≤ length (now (part .entry)) / 288) × (any (highPower (now (part .entry))) (72 * r) ≡ false) ⌝ }
+{
+    let mut b: usize = 0;
+    while b < part.len() / 288 {
+        if 0 < bits_on(part, 288 * b) % 65536 {
+            return b;
+        }
+        b += 1;
+    }
+    b
+}
+
+// 9, of all whole blocks, where those before the first are low.
+fn high_blocks(part: &[u8], first: usize) -> bool
+    requires { ⌜ (first ≤ length (now part) / 288) × (any (highPower (now part)) (72 * first) ≡ false) ⌝ }
+    ensures { λ r. ⌜ r ≡ any (highPower (now (part .entry))) (72 * (length (now (part .entry)) / 288)) ⌝ }
+{
+    let mut m = Marks { front: 0, above: 0 };
+    let mut b = first;
+    while b < part.len() / 288 {
+        m = joined(m, marks_on(part, 288 * b));
+        b += 1;
+    }
+    is_marked(m)
+}
+
+// 9, of so many powers from a place on, one by one. What is past the end counts as 0.
+fn one_by_one(s: &[u8], at: usize, count: usize) -> bool
+    requires { ⌜ at + 4 * count < 2 ^ 64 ⌝ }
+    ensures { λ r. ⌜ r ≡ highFrom (now (s .entry)) at count ⌝ }
+{
+    let mut found = false;
+    let mut i: usize = 0;
+    while i < count {
+        found = found | too_high(word(s, at + 4 * i));
+        i += 1;
+    }
+    found
+}
+
+// 9, of the powers of a part, whatever they are and in whatever order.
+pub fn high_powers(part: &[u8]) -> bool
+    ensures { λ r. ⌜ r ≡ highPowers (now (part .entry)) ⌝ }
+{
+    let blocks = part.len() / 288;
+    high_blocks(part, low_blocks(part))
+        | one_by_one(part, 288 * blocks, part.len() / 4 - 72 * blocks)
+}
+
+// 9, of producer p's hours. Where the sheet ends before they do, the powers are looked at one by one.
+pub fn high_hours(s: &[u8], layout: Layout, p: u8) -> bool
+    ensures { λ r. ⌜ r ≡ any (highHour (monthUnder layout (now (s .entry)) .producer p)) (hours (layout .header)) ⌝ }
+{
+    let at = hours_at(layout, p);
+    let end = at + 288 * (layout.header.days as usize);
+    if s.len() < end {
+        return one_by_one(s, at, 72 * (layout.header.days as usize));
+    }
+    high_powers(&s[at..end])
+}
