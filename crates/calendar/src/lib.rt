@@ -3,6 +3,7 @@ ghost use mathlib.Core.Path.{_≡_};
 ghost use Prim.Native.Nat.{_/_, _^_};
 ghost use lib.Dec.{ltb};
 ghost use Rattle.rules.specs.ControlHours.{weekdayOn, holidayOn, controlDay};
+ghost use Rattle.laws.specs.Lists.{listed};
 use rules::Header;
 
 // The day's bit of the holidays; no day past the 32 bits has one.
@@ -28,6 +29,25 @@ pub fn control_day(h: Header, day: u8) -> bool
     ensures { λ r. ⌜ r ≡ controlDay h day ⌝ }
 {
     (weekday_on(h, day) <= 5) & !holiday_on(h, day)
+}
+
+// Which days are control days, of 31, as many as a month may have.
+pub struct ControlDays {
+    pub on: [bool; 31],
+}
+
+// The control days that a header gives, whatever its number of days.
+pub fn control_days(h: Header) -> ControlDays
+    ensures { λ r. ⌜ r .on ≡ listed (controlDay h) 31 ⌝ }
+{
+    let mut on = [false; 31];
+    let mut day: u8 = 0;
+    while day < 31 {
+        let i = day as usize;
+        on[i] = control_day(h, day);
+        day += 1;
+    }
+    ControlDays { on }
 }
 
 // Some day past the month's end has a bit in the holidays.

@@ -1,40 +1,55 @@
--- What an hour adds to a producer's sums, as a loop over the hours meets it. Assumes nothing.
-use mathlib.Core.Path.{_≡_, sym}
+-- k4's sums from an hour to the next, and the control hours from a day to the next. Assumes nothing.
+use mathlib.Core.Path.{_≡_, sym, _∙_}
+use mathlib.Core.Bool.{Bool, true, false}
 use mathlib.Core.List.{List}
-use Prim.Native.Nat.{ℕ, _+_, _-_, _≤_, min}
+use Prim.Native.Nat.{ℕ, zero-le, _+_, _*_, _≤_}
 use native.Mathlib.Nat.{add-zero}
 use native.Mathlib.Omega.{arith}
-use lib.ListN.{take, drop}
-use Rattle.rules.specs.Fields.{bigEndian}
-use Rattle.laws.proofs.Fields.{read-part}
-use Rattle.rules.specs.declared.Layout.{Layout}
-use Rattle.rules.specs.declared.Hour.{Hour}
-use Rattle.rules.specs.Month.{Producer}
-use Rattle.rules.specs.Sheet.{hourAt, hourOf, monthUnder}
-use Rattle.rules.specs.Coefficients.{asked, met}
-use Rattle.hours.specs.declared.K4.{K4}
+use lib.ListN.{getD}
+use Rattle.rules.specs.Range.{sum, when}
+use Rattle.laws.proofs.Range.{sum-none, sum-more, sum-fold}
+use Rattle.laws.proofs.ControlHours.{evening}
+use Rattle.units.specs.Sums.{tenths}
+use Rattle.hours.specs.declared.k4.K4.{K4}
+use Rattle.hours.specs.declared.control.Control.{Control}
 use Rattle.hours.specs.Sums.{K4Before}
-
--- The three powers of an hour, read in a part that is lent for them.
-pub hour-read : (s : List ℕ) (at : ℕ) {place : ℕ} {x : Hour} → place ≡ at
-    → x .working ≡ bigEndian 4 (take (at + 12 - at) (drop at s)) 0
-    → x .possible ≡ bigEndian 4 (take (at + 12 - at) (drop at s)) 4
-    → x .outside ≡ bigEndian 4 (take (at + 12 - at) (drop at s)) 8
-    → x ≡ hourOf s place
-hour-read s at e w p o =
-    let part : (k : ℕ) → k + 4 ≤ 12 → bigEndian 4 (take (at + 12 - at) (drop at s)) k ≡ bigEndian 4 s (at + k) =
-    λ k l. read-part 4 (at + 12 - at) at k s (omega arith) in
-    rw (w, p, o, e, part 0 (omega arith), part 4 (omega arith), part 8 (omega arith), add-zero)
-
-module _ (s : List ℕ) (layout : Layout) (p i : ℕ) {x : Hour} (is : x ≡ hourOf s (hourAt layout p i)) where
-  pub asked-there : (S : ℕ) → min S (x .possible) ≡ asked (monthUnder layout s .producer p) S i
-  unfolding asked
-  asked-there S = rw is
-
-  pub met-there : (S : ℕ) {m : ℕ} → m ≡ asked (monthUnder layout s .producer p) S i → min m (x .working) ≡ met (monthUnder layout s .producer p) S i
-  unfolding met
-  met-there S r = rw (r, is)
+use Rattle.hours.specs.Control.{controlOf}
 
 -- The sums of the hours before one number are those before another name of it.
-pub k4-same : (p : Producer) (S : ℕ) {k : K4} {m n : ℕ} → m ≡ n → K4Before p S m k → K4Before p S n k
-k4-same p S e x = rw (sym e) x
+pub k4-same : (working possible : ℕ → ℕ) (S : ℕ) {k : K4} {m n : ℕ} → m ≡ n → K4Before working possible S m k → K4Before working possible S n k
+k4-same working possible S e x = rw (sym e) x
+
+-- The control hours of the days before a day: the sum over them, and how many they are.
+pub record SoFar (series : ℕ → ℕ) (on : List Bool) (day counted count : ℕ) : Type 0 where
+  pub sum-is : counted ≡ sum (λ d. when (getD on d false) (evening series d)) day
+  pub count-is : count ≡ sum (λ d. when (getD on d false) 6) day
+  pub fits : counted ≤ 4294967295 * count
+  pub few : count ≤ 6 * day
+
+module _ (series : ℕ → ℕ) (on : List Bool) where
+  pub none-yet : SoFar series on 0 0 0
+  none-yet = record { sum-is = sym (sum-none _); count-is = sym (sum-none _); fits = zero-le; few = zero-le }
+
+  pub control-more : {day counted count v : ℕ} → SoFar series on day counted count → getD on day false ≡ true → v ≡ evening series day
+      → v ≤ 25769803770 → SoFar series on (day + 1) (counted + v) (count + 6)
+  unfolding when
+  control-more k e q l =
+      record {
+        sum-is = sum-fold _ _ (k .sum-is) (rw e q);
+        count-is = sum-fold _ _ (k .count-is) (rw e);
+        fits = omega arith;
+        few = omega arith;
+      }
+
+  pub other-more : {day counted count : ℕ} → SoFar series on day counted count → getD on day false ≡ false → SoFar series on (day + 1) counted count
+  unfolding when
+  other-more {day} k e =
+      record {
+        sum-is = k .sum-is ∙ sym (sum-more _ day ∙ rw (e, add-zero));
+        count-is = k .count-is ∙ sym (sum-more _ day ∙ rw (e, add-zero));
+        fits = k .fits;
+        few = omega arith;
+      }
+
+  pub all-days : {n counted count : ℕ} → SoFar series on n counted count → _≡_ {A = Control} (record { counted = tenths counted; count = count }) (controlOf series on n)
+  all-days k = rw (k .sum-is, k .count-is)

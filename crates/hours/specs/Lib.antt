@@ -1,1 +1,3 @@
+pub mod Series
 pub mod Sums
+pub mod Control

@@ -1,32 +1,38 @@
--- k4's sums over one producer's hours, as the struct that carries them.
+-- k4's sums over the hours, as the struct that carries them.
 use mathlib.Core.Path.{_≡_}
-use mathlib.Core.Bool.{cond}
+use mathlib.Core.Bool.{cond, _&&_}
 use mathlib.Core.List.{List}
-use Prim.Native.Nat.{ℕ, _+_, _*_, _≤_}
+use Prim.Native.Nat.{ℕ, _*_, _≤_, min}
 use lib.ListN.{length}
-use lib.Dec.{ltb}
-use Rattle.rules.specs.declared.Header.{Header}
-use Rattle.rules.specs.declared.Layout.{Layout}
+use Rattle.rules.specs.declared.Series.{Series}
 use Rattle.rules.specs.Range.{sum}
-use Rattle.rules.specs.Month.{Producer, hours}
-use Rattle.rules.specs.Sheet.{hourAt, hoursWidth, monthUnder}
-use Rattle.rules.specs.Coefficients.{asked, met}
 use Rattle.units.specs.Sums.{tenths}
-use Rattle.hours.specs.declared.K4.{K4}
+use Rattle.hours.specs.declared.k4.K4.{K4}
+use Rattle.hours.specs.Series.{stands, powerIn}
+
+-- m of an hour, by possible power and S; and what is met of it, by working power. [Coefficients, k4]
+abbrev pub askedOf : (ℕ → ℕ) → ℕ → ℕ → ℕ
+askedOf possible S i = min S (possible i)
+
+abbrev pub metOf : (ℕ → ℕ) → (ℕ → ℕ) → ℕ → ℕ → ℕ
+metOf working possible S i = min (askedOf possible S i) (working i)
 
 -- The sums of the hours before hour n, and that they fit.
-abbrev pub K4Before : Producer → ℕ → ℕ → K4 → Type 0
-K4Before p S n k =
-    (k .asked .0 ≡ sum (asked p S) n)
-    × (k .met .0 ≡ sum (met p S) n)
+abbrev pub K4Before : (ℕ → ℕ) → (ℕ → ℕ) → ℕ → ℕ → K4 → Type 0
+K4Before working possible S n k =
+    (k .asked .0 ≡ sum (askedOf possible S) n)
+    × (k .met .0 ≡ sum (metOf working possible S) n)
     × (k .asked .0 ≤ 4294967295 * n)
     × (k .met .0 ≤ 4294967295 * n)
 
--- The sum of m, and the sum of what is met of it.
-abbrev pub k4Of : Header → Producer → ℕ → K4
-k4Of h p S = record { asked = tenths (sum (asked p S) (hours h)); met = tenths (sum (met p S) (hours h)) }
+-- The sum of m over n hours, and the sum of what is met of it.
+abbrev pub k4Of : (ℕ → ℕ) → (ℕ → ℕ) → ℕ → ℕ → K4
+k4Of working possible S n =
+    record { asked = tenths (sum (askedOf possible S) n); met = tenths (sum (metOf working possible S) n) }
 
--- Of producer p in a sheet; nothing where the sheet ends before the producer's hours do.
-unfoldable pub k4In : Layout → List ℕ → ℕ → ℕ → K4
-k4In layout s p S =
-    cond (ltb (length s) (hourAt layout p 0 + hoursWidth (layout .header))) (record { asked = tenths 0; met = tenths 0 }) (k4Of (layout .header) (monthUnder layout s .producer p) S)
+-- Of two series in a part; nothing where the part ends before the powers of so many days do.
+unfoldable pub k4In : List ℕ → Series → Series → ℕ → ℕ → K4
+k4In part working possible days S =
+    cond (stands (length part) working (24 * days) && stands (length part) possible (24 * days))
+    (k4Of (powerIn part working) (powerIn part possible) S (24 * days))
+    (record { asked = tenths 0; met = tenths 0 })

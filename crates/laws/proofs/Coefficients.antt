@@ -7,9 +7,10 @@ use native.Mathlib.Omega.{arith}
 use Rattle.rules.specs.Units.{rounded, one}
 use Rattle.rules.specs.ControlHours.{average}
 use Rattle.rules.specs.declared.Header.{Header}
+use Rattle.rules.specs.declared.Ratio.{Ratio}
 use Rattle.rules.specs.Month.{Producer, hours}
 use Rattle.rules.specs.Limits.{ProducerLimits}
-use Rattle.rules.specs.Coefficients.{share, penalty, lessPenalty, k1, k2, asked, met, k4, k5, inOrder}
+use Rattle.rules.specs.Coefficients.{ratio, share, millionthsOf, penalty, lessPenalty, exactK1, k1, k2, asked, met, exactK4, k4, k5, inOrder}
 use Rattle.laws.proofs.Range.{sum-mono}
 use Rattle.laws.proofs.Units.{rounded-over-0, rounded-at-most}
 
@@ -24,15 +25,19 @@ unfolding share
 share-some part zero l = absurd (omega arith)
 share-some part (suc rest) l = refl
 
-pub penalty-of-none : (x : ℕ) → (x ≡ 0 → ⊥) → lessPenalty 0 x ≡ 0
+pub ratio-some : (r : Ratio) → 0 < r .whole → millionthsOf r ≡ rounded (r .part * one) (r .whole)
+unfolding millionthsOf
+ratio-some r l = share-some (r .part) (r .whole) l
+
+pub penalty-of-none : (x : ℕ) → (x ≡ 0 → ⊥) → lessPenalty 0 x ≡ ratio 0 1
 unfolding lessPenalty
 penalty-of-none zero n = absurd (n refl)
 penalty-of-none (suc x) n = refl
 
-pub penalty-of-some : (T x : ℕ) → 0 < T → lessPenalty T x ≡ rounded ((10 * T - x) * one) (10 * T)
+pub penalty-of-some : (T x : ℕ) → 0 < T → lessPenalty T x ≡ ratio (10 * T - x) (10 * T)
 unfolding lessPenalty
 penalty-of-some zero x l = absurd (omega arith)
-penalty-of-some (suc T) x l = share-some (10 * suc T - x) (10 * suc T) (omega arith)
+penalty-of-some (suc T) x l = refl
 
 -- A share of a part is at most 1.
 pub share-at-most : (whole : ℕ) {part : ℕ} → part ≤ whole → share part whole ≤ one
@@ -40,10 +45,10 @@ unfolding share
 share-at-most zero h = le-refl one
 share-at-most (suc rest) h = rounded-at-most one (suc rest) (omega arith)
 
-penalty-at-most : (T x : ℕ) → lessPenalty T x ≤ one
-unfolding lessPenalty
-penalty-at-most zero zero = le-refl one
-penalty-at-most zero (suc x) = zero-le
+penalty-at-most : (T x : ℕ) → millionthsOf (lessPenalty T x) ≤ one
+unfolding millionthsOf lessPenalty
+penalty-at-most zero zero = share-at-most 1 (le-refl 1)
+penalty-at-most zero (suc x) = share-at-most 1 zero-le
 penalty-at-most (suc T) x = share-at-most (10 * suc T) (sub-le (10 * suc T) x)
 
 pub met-le : (p : Producer) (S i : ℕ) → met p S i ≤ asked p S i
@@ -52,7 +57,7 @@ met-le p S i = omega arith
 
 module _ (h : Header) (p : Producer) where
   pub k1-at-most : (T : ℕ) → k1 h p T ≤ one
-  unfolding k1
+  unfolding k1 exactK1
   k1-at-most T = penalty-at-most T (penalty h p)
 
   pub k2-at-most : k2 h p ≤ one
@@ -60,7 +65,7 @@ module _ (h : Header) (p : Producer) where
   k2-at-most = share-at-most (hours h) (sub-le (hours h) _)
 
   pub k4-at-most : (S : ℕ) → k4 h p S ≤ one
-  unfolding k4
+  unfolding k4 exactK4 millionthsOf
   k4-at-most S = share-at-most _ (sum-mono (met p S) (asked p S) refl (λ i l. met-le p S i))
 
   pub k5-at-most : k5 h p ≤ one

@@ -17,7 +17,7 @@ use Rattle.rules.specs.declared.Row.{Row}
 use Rattle.rules.specs.declared.Consumer.{Consumer}
 use Rattle.rules.specs.Month.{Producer, Month, hours}
 use Rattle.rules.specs.declared.Layout.{Layout}
-use Rattle.rules.specs.Sheet.{headerOf, layoutOf, monthOf, hoursWidth, hourAt}
+use Rattle.rules.specs.Sheet.{headerOf, layoutOf, monthOf, hoursWidth, hoursAt}
 use Rattle.rules.specs.Result.{resultLength}
 use Rattle.rules.specs.Refusals.{oneOf, badMonth, tooMany, badShare, tooHigh, highHour, highProducer, highRow, highConsumer, badReference, tooDear, badFactor, Test, frontTests, headerTests, formTests, roomTests, figureTests, tests, applies, firstOf, refusal}
 use Rattle.rules.specs.Limits.{HeaderLimits, ProducerLimits, RowLimits, ConsumerLimits, MonthLimits, FormLimits, SheetLimits}
@@ -391,11 +391,11 @@ module _ (s : List ℕ) (room : ℕ) where
 -- The stretch of hours: where it stands, that it ends within the sheet, and where there is none.
 module _ (s : List ℕ) (p : ℕ) where
   pub stretch-there : firstOf (formTests s) ≡ 0 → p < headerOf s .producers
-      → hoursStretch s p ≡ record { place = hourAt (layoutOf s) p 0; bytes = hoursWidth (headerOf s) }
+      → hoursStretch s p ≡ record { place = hoursAt (layoutOf s) p; bytes = hoursWidth (headerOf s) }
   unfolding hoursStretch
   stretch-there e l = rw (eq-eqb _ _ e, lt-ltb _ _ l)
 
-  pub stretch-ends : firstOf (formTests s) ≡ 0 → p < headerOf s .producers → hourAt (layoutOf s) p 0 + hoursWidth (headerOf s) ≤ length s
+  pub stretch-ends : firstOf (formTests s) ≡ 0 → p < headerOf s .producers → hoursAt (layoutOf s) p + hoursWidth (headerOf s) ≤ length s
   stretch-ends e l =
       let f = form-limits s e in
       omega (arith, f .length-told, f .length-right, hours-inside (layoutOf s) p l)

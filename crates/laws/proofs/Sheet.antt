@@ -4,7 +4,7 @@ use Prim.Native.Nat.{ℕ, _+_, _*_, _≤_, _<_}
 use native.Mathlib.Nat.{mul-le-mul, mul-le-mul-right}
 use native.Mathlib.Omega.{arith}
 use Rattle.rules.specs.declared.Layout.{Layout}
-use Rattle.rules.specs.Sheet.{hoursWidth, producerAt, hourAt, rowAt, consumerAt, sheetLength}
+use Rattle.rules.specs.Sheet.{hoursWidth, producerAt, hoursAt, rowAt, consumerAt, sheetLength}
 
 -- Number 6's length, in document 01's words.
 pub sheet-length : (l : Layout)
@@ -13,8 +13,8 @@ unfolding sheetLength consumerAt rowAt producerAt
 sheet-length l = omega arith
 
 -- The hours of a producer below P end within the sheet.
-pub hours-inside : (l : Layout) (p : ℕ) → p < l .header .producers → hourAt l p 0 + hoursWidth (l .header) ≤ sheetLength l
-unfolding sheetLength consumerAt rowAt hourAt producerAt
+pub hours-inside : (l : Layout) (p : ℕ) → p < l .header .producers → hoursAt l p + hoursWidth (l .header) ≤ sheetLength l
+unfolding sheetLength consumerAt rowAt hoursAt producerAt
 hours-inside l p b = omega (arith, mul-le-mul-right (42 + 288 * l .header .days) b)
 
 -- The bytes before a producer's place are not many, whatever a header's bytes say.

@@ -1,10 +1,11 @@
 // Where the records of a sheet stand, and how long the sheet and its result are. No other crate knows how wide a record of the sheet is.
 ghost use mathlib.Core.Path.{_≡_};
 ghost use Prim.Native.Nat.{_≤_};
-ghost use Rattle.rules.specs.Sheet.{producerAt, hourAt, rowAt, consumerAt, sheetLength};
+ghost use Rattle.rules.specs.Sheet.{hoursWidth, producerAt, hoursAt, workingSeries, possibleSeries, outsideSeries, rowAt, consumerAt, sheetLength};
 ghost use Rattle.rules.specs.Result.{resultLength};
 use rules::Header;
 use rules::Layout;
+use rules::Series;
 
 // Where producer p begins.
 pub fn producer_at(layout: Layout, p: u8) -> usize
@@ -15,9 +16,46 @@ pub fn producer_at(layout: Layout, p: u8) -> usize
 
 // Where producer p's hours begin.
 pub fn hours_at(layout: Layout, p: u8) -> usize
-    ensures { λ r. ⌜ (r ≡ hourAt layout p 0) × (r ≤ 20000042) ⌝ }
+    ensures { λ r. ⌜ (r ≡ hoursAt layout p) × (r ≤ 20000042) ⌝ }
 {
     producer_at(layout, p) + 42
+}
+
+// How many bytes a producer's hours take.
+pub fn hours_width(h: Header) -> usize
+    ensures { λ r. ⌜ (r ≡ hoursWidth h) × (r ≤ 73440) ⌝ }
+{
+    288 * (h.days as usize)
+}
+
+// Where working powers stand in a producer's hours.
+pub fn working_series(layout: Layout) -> Series
+    ensures { λ r. ⌜ r ≡ workingSeries layout ⌝ }
+{
+    Series {
+        start: 0,
+        step: 12,
+    }
+}
+
+// Where possible powers stand in a producer's hours.
+pub fn possible_series(layout: Layout) -> Series
+    ensures { λ r. ⌜ r ≡ possibleSeries layout ⌝ }
+{
+    Series {
+        start: 4,
+        step: 12,
+    }
+}
+
+// Where outside-use powers stand in a producer's hours.
+pub fn outside_series(layout: Layout) -> Series
+    ensures { λ r. ⌜ r ≡ outsideSeries layout ⌝ }
+{
+    Series {
+        start: 8,
+        step: 12,
+    }
 }
 
 // Where row j begins.

@@ -1,28 +1,39 @@
 -- A producer's terms before the first row, and the array that holds them. Assumes nothing.
-use mathlib.Core.Path.{_≡_, refl, sym, ap, _∙_}
-use mathlib.Core.Bool.{Bool, true, false, cond}
+use mathlib.Core.Path.{_≡_}
 use mathlib.Core.List.{List}
-use Prim.Native.Nat.{ℕ, _+_, _-_, _≤_, _<_, min}
+use Prim.Native.Nat.{ℕ, _+_, _-_, _≤_, _<_}
 use native.Mathlib.Omega.{arith}
-use borrow.Author.Tests.{ltb-true, ltb-false, lt-ltb, le-ltb}
-use lib.Dec.{ltb}
-use lib.ListN.{length, getD, set, replicate}
+use borrow.Author.Tests.{le-ltb}
+use lib.ListN.{length, getD}
 use Rattle.rules.specs.declared.Layout.{Layout}
+use Rattle.rules.specs.declared.Ratio.{Ratio}
+use Rattle.rules.specs.declared.Stated.{Stated}
 use Rattle.rules.specs.Month.{Month}
-use Rattle.rules.specs.Sheet.{sheetLength, monthUnder}
+use Rattle.rules.specs.Sheet.{producerAt, sheetLength, statedOf, producerUnder, monthUnder}
 use Rattle.rules.specs.Limits.{HeaderLimits}
-use Rattle.rules.specs.Cut.{ownVolume, supportVolume, bilateralVolume, summedCapacity, excess, leftToCut}
+use Rattle.rules.specs.Cut.{ownVolume, supportVolume, summedCapacity, excess, leftToCut}
+use Rattle.rules.specs.Coefficients.{exactK1, exactK4, k1, k2, k4, k5, inOrder, coefficients}
+use Rattle.laws.specs.Lists.{listed}
 use Rattle.laws.proofs.Range.{sum-none}
-use Rattle.laws.proofs.Arrays.{Agrees, agrees-filled, agrees-set}
+use Rattle.laws.proofs.Arrays.{Agrees, listed-agrees}
 use Rattle.volumes.specs.declared.Volumes.{Volumes}
 use Rattle.volumes.specs.Volumes.{Fits, volumesOf, noVolumes}
 use Rattle.producers.specs.declared.Terms.{Terms}
-use Rattle.producers.specs.Terms.{termsAt, noTerms, zeroTerms, withTerms, termsBelow, termsOf, Known}
+use Rattle.producers.specs.Terms.{ksFrom, noTerms, withTerms, termsOf, Known}
 
 pub summed-is : (m : Month) (p : ℕ) (v : Volumes) (d : ℕ) → v ≡ volumesOf m p → d ≡ m .producer p .deductible
     → v .support .0 + v .bilateral .0 + d ≡ summedCapacity m p
 unfolding summedCapacity
 summed-is m p v d e q = rw (e, q)
+
+-- k1 to k10 from a producer's stated figures, and from k1 and k4 before they are rounded.
+pub ks-known : (l : Layout) (s : List ℕ) (p : ℕ) {x : Stated} {first fourth : Ratio}
+    → x ≡ statedOf s (producerAt l p)
+    → first ≡ exactK1 (l .header) (producerUnder l s p) (supportVolume (monthUnder l s) p)
+    → fourth ≡ exactK4 (l .header) (producerUnder l s p) (summedCapacity (monthUnder l s) p)
+    → ksFrom (l .header) x first fourth ≡ coefficients (monthUnder l s) p
+unfolding coefficients inOrder k1 k2 k4 k5
+ks-known l s p stated first fourth = rw (stated, first, fourth)
 
 -- An array with the volumes of six producers, which fit.
 abbrev pub VolumesKnown : Month → List Volumes → Type 0
@@ -33,23 +44,13 @@ pub left-first : (m : Month) (p : ℕ) → leftToCut m p 0 ≡ summedCapacity m 
 unfolding leftToCut excess
 left-first m p = omega (arith, sum-none (ownVolume m p))
 
--- The terms of no producer, and of one more.
-pub known-none : (m : Month) → Known m 0 0 (replicate 6 zeroTerms)
-unfolding termsBelow
-known-none m = agrees-filled 6 noTerms zeroTerms (λ p l. sym (rw (le-ltb p 0 (omega arith))))
-
--- Of a producer other than p it is the same whether p is below n or p + 1.
-below-more : (q p : ℕ) → (q ≡ p → ⊥) → ltb q p ≡ ltb q (p + 1)
-below-more q p n = go (ltb q p) refl
-  where
-    go : (b : Bool) → ltb q p ≡ b → b ≡ ltb q (p + 1)
-    go true e = sym (lt-ltb q (p + 1) (omega (arith, ltb-true q p e)))
-    go false e = sym (le-ltb q (p + 1) (omega (arith, ltb-false q p e, n)))
-
-pub known-more : (m : Month) (p : ℕ) (ts : List Terms) (t : Terms) → Known m 0 p ts → p < 6 → t ≡ termsAt m p 0 → Known m 0 (p + 1) (set ts p t)
-unfolding termsBelow
-known-more m p ts t k l e =
-    agrees-set 6 noTerms p l (rw (lt-ltb p (p + 1) (omega arith)) e) (λ q b n. rw (below-more q p n)) k
+-- So it is what S leaves over stated own needs and attested capacity.
+pub left-stated : (l : Layout) (s : List ℕ) (p : ℕ) {x : Stated} {n e : ℕ}
+    → x ≡ statedOf s (producerAt l p)
+    → n ≡ summedCapacity (monthUnder l s) p
+    → e ≡ n - x .needs - x .attested
+    → e ≡ leftToCut (monthUnder l s) p 0
+left-stated l s p stated summed excess = rw (excess, summed, stated, left-first (monthUnder l s) p)
 
 -- In a whole sheet whose header keeps to its limits every producer has its terms.
 module _ (layout : Layout) (s : List ℕ) (w : HeaderLimits (layout .header)) (whole : sheetLength layout ≤ length s) where
@@ -57,5 +58,5 @@ module _ (layout : Layout) (s : List ℕ) (w : HeaderLimits (layout .header)) (w
   unfolding withTerms
   all-have = rw (le-ltb 31 (layout .header .days) (w .days-to), le-ltb (length s) (sheetLength layout) whole) (omega (arith, w .producers))
 
-  pub known-first : (ts : List Terms) → Agrees 6 noTerms (termsOf layout s) ts → Known (monthUnder layout s) 0 (layout .header .producers) ts
-  known-first ts k = rw all-have at k
+  pub known-first : (ts : List Terms) → ts ≡ listed (termsOf layout s) 6 → Known (monthUnder layout s) 0 (layout .header .producers) ts
+  known-first ts e = let k : Agrees 6 noTerms (termsOf layout s) ts = listed-agrees e in rw all-have at k

@@ -1,23 +1,45 @@
 -- What a producer's rows are settled by: what is left to cut of them, and k1 to k10.
-use Prim.Native.Nat.{ℕ, _-_, min}
+use Prim.Native.Nat.{ℕ, _-_, min, max}
 use mathlib.Core.Bool.{cond, _||_}
-use mathlib.Core.List.{List, []}
+use mathlib.Core.List.{List, [], _∷_}
 use lib.ListN.{length, replicate}
 use lib.Dec.{ltb}
+use Rattle.rules.specs.declared.Header.{Header}
 use Rattle.rules.specs.declared.Layout.{Layout}
-use Rattle.rules.specs.Month.{Month}
+use Rattle.rules.specs.declared.Stated.{Stated}
+use Rattle.rules.specs.declared.Ratio.{Ratio}
+use Rattle.rules.specs.Month.{Month, hours}
 use Rattle.rules.specs.Sheet.{sheetLength, monthUnder}
 use Rattle.rules.specs.Cut.{leftToCut}
 use Rattle.rules.specs.ControlHours.{average}
-use Rattle.rules.specs.Coefficients.{coefficients}
-use Rattle.control.specs.declared.Control.{Control}
-use Rattle.laws.proofs.Arrays.{Agrees}
+use Rattle.rules.specs.Coefficients.{share, millionthsOf, coefficients}
+use Rattle.laws.proofs.Arrays.{Agrees, filled}
 use Rattle.units.specs.Sums.{tenths}
+use Rattle.hours.specs.declared.control.Control.{Control}
 use Rattle.producers.specs.declared.Terms.{Terms}
+
+-- The largest part of a ratio whose millionths fit 64 bits.
+abbrev pub mostPart : ℕ
+mostPart = 18446744073709
 
 -- D of k1, from the control hours and the deductible capacity. [Coefficients, k1]
 abbrev pub overOf : Control → ℕ → ℕ
 overOf control deductible = average (control .counted .0) (control .count) - deductible
+
+-- k1 to k10 in order, from a producer's stated figures and from k1 and k4 before they are rounded. [Coefficients]
+abbrev pub ksFrom : Header → Stated → Ratio → Ratio → List ℕ
+ksFrom h x k1 k4 =
+    millionthsOf k1
+    ∷ share (hours h - max (x .upward) (x .downward)) (hours h)
+    ∷ x .k3
+    ∷ millionthsOf k4
+    ∷ share (hours h - x .plan) (hours h)
+    ∷ x .k6
+    ∷ x .k7
+    ∷ x .k8
+    ∷ x .k9
+    ∷ x .k10
+    ∷ []
 
 -- Producer p when row j's turn comes. [Cut; Coefficients]
 abbrev pub termsAt : Month → ℕ → ℕ → Terms
@@ -36,8 +58,8 @@ unfoldable pub withTerms : Layout → List ℕ → ℕ
 withTerms layout s = cond (ltb 31 (layout .header .days) || ltb (length s) (sheetLength layout)) 0 (min (layout .header .producers) 6)
 
 -- The first n producers when row j's turn comes; past them there are none.
-unfoldable pub termsBelow : Month → ℕ → ℕ → ℕ → Terms
-termsBelow m j n p = cond (ltb p n) (termsAt m p j) zeroTerms
+abbrev pub termsBelow : Month → ℕ → ℕ → ℕ → Terms
+termsBelow m j n = filled zeroTerms (λ p. termsAt m p j) n
 
 -- In an array of six.
 abbrev pub Known : Month → ℕ → ℕ → List Terms → Type 0

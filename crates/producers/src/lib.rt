@@ -2,29 +2,33 @@
 ghost use mathlib.Core.Path.{_≡_};
 ghost use Prim.Native.Nat.{_+_, _-_, _*_, _<_, _≤_};
 ghost use lib.ListN.{length};
-ghost use Rattle.rules.specs.Month.{hours};
-ghost use Rattle.rules.specs.Sheet.{sheetLength, producerAt, hourAt, hoursWidth, monthUnder};
+ghost use Rattle.rules.specs.Sheet.{sheetLength, hoursAt, hoursWidth, monthUnder};
+ghost use Rattle.rules.specs.ControlHours.{controlDay};
 ghost use Rattle.rules.specs.Bands.{bandOf, thousandths};
-ghost use Rattle.rules.specs.Cut.{summedCapacity};
-ghost use Rattle.rules.specs.Coefficients.{share, lessPenalty, coefficients};
-ghost use Rattle.laws.proofs.Arrays.{Agrees};
+ghost use Rattle.rules.specs.Coefficients.{ratio, lessPenalty, millionthsOf};
+ghost use Rattle.laws.specs.Lists.{listed};
 ghost use Rattle.volumes.specs.Volumes.{Fits, mostVolume, volumesOf};
-ghost use Rattle.hours.specs.Sums.{k4Of};
-ghost use Rattle.control.specs.Control.{controlOf};
-ghost use Rattle.producers.specs.Terms.{overOf, termsAt, termsOf, noTerms, withTerms};
+ghost use Rattle.producers.specs.Terms.{mostPart, overOf, ksFrom, termsAt, termsOf, withTerms};
+use calendar::ControlDays;
+use calendar::control_days;
 use coefficients::bids;
 use coefficients::overuse;
 use coefficients::penalty;
 use coefficients::plans;
-use control::Control;
-use control::control_hours;
-use fields::half;
-use fields::word;
+use hours::Control;
 use hours::K4;
+use hours::control_hours;
 use hours::k4_sums;
-use places::producer_at;
+use places::outside_series;
+use places::possible_series;
 use places::sheet_length;
+use places::working_series;
+use rules::Header;
 use rules::Layout;
+use rules::Ratio;
+use rules::Stated;
+use sheet::producer;
+use sheet::stretch;
 use units::ONE;
 use units::Tenths;
 use units::less;
@@ -43,73 +47,74 @@ pub struct AllTerms {
     pub of: [Terms; 6],
 }
 
-// 1 - n × D / T.
-fn less_penalty(support: Tenths, penalty: u64) -> u64
+// 1 - n × D / T, before it is rounded.
+fn less_penalty(support: Tenths, penalty: u64) -> Ratio
     requires { ⌜ support .0 ≤ mostVolume ⌝ }
-    ensures { λ r. ⌜ r ≡ lessPenalty (support .0) penalty ⌝ }
+    ensures { λ r. ⌜ (r ≡ lessPenalty (support .0) penalty) × (r .part ≤ mostPart) ⌝ }
 {
     if support.0 == 0 {
         if penalty == 0 {
-            return ONE;
+            return Ratio { part: 1, whole: 1 };
         }
-        return 0;
+        return Ratio { part: 0, whole: 1 };
     }
     let whole = 10 * support.0;
-    nearest(less(whole, penalty) * ONE, whole)
+    Ratio {
+        part: less(whole, penalty),
+        whole,
+    }
 }
 
-// k1.
-fn k1_of(control: Control, deductible: u32, support: Tenths) -> u64
+// k1 before it is rounded.
+fn exact_k1(control: Control, deductible: u32, support: Tenths) -> Ratio
     requires { ⌜ (control .counted .0 ≤ 4294967295 * control .count) × (support .0 ≤ mostVolume) ⌝ }
-    ensures { λ r. ⌜ r ≡ lessPenalty (support .0) (bandOf (thousandths (overOf control deductible) deductible) * overOf control deductible) ⌝ }
+    ensures { λ r. ⌜ (r ≡ lessPenalty (support .0) (bandOf (thousandths (overOf control deductible) deductible) * overOf control deductible))
+        × (r .part ≤ mostPart) ⌝ }
 {
     let over = overuse(control.counted, control.count, Tenths::stated(deductible));
     less_penalty(support, penalty(over.0 as u32, deductible))
 }
 
-// k4.
-fn k4_of(sums: K4) -> u64
-    requires { ⌜ sums .met .0 ≤ 3195455667480 ⌝ }
-    ensures { λ r. ⌜ r ≡ share (sums .met .0) (sums .asked .0) ⌝ }
+// k4 before it is rounded.
+fn exact_k4(sums: K4) -> Ratio
+    ensures { λ r. ⌜ r ≡ ratio (sums .met .0) (sums .asked .0) ⌝ }
 {
-    let asked = sums.asked;
     let met = sums.met;
-    if asked.0 == 0 {
-        return ONE;
+    let asked = sums.asked;
+    Ratio {
+        part: met.0,
+        whole: asked.0,
     }
-    nearest(met.0 * ONE, asked.0)
 }
 
-// k1 to k10 of producer p, whose figures begin at a place.
-fn ks_of(
-    s: &[u8],
-    layout: Layout,
-    p: u8,
-    at: usize,
-    v: Volumes,
-    sums: K4,
-    control: Control,
-) -> [u64; 10]
-    requires { ⌜ (layout .header .days ≤ 31) × (at ≡ producerAt layout p) × (at ≤ 20000000) ⌝ }
-    requires { ⌜ (v ≡ volumesOf (monthUnder layout (now s)) p) × (v .support .0 ≤ mostVolume) ⌝ }
-    requires { ⌜ (sums ≡ k4Of (layout .header) (monthUnder layout (now s) .producer p) (summedCapacity (monthUnder layout (now s)) p))
-        × (sums .met .0 ≤ 4294967295 * hours (layout .header)) ⌝ }
-    requires { ⌜ (control ≡ controlOf (layout .header) (monthUnder layout (now s) .producer p .outsideUse))
-        × (control .counted .0 ≤ 4294967295 * control .count) ⌝ }
-    ensures { λ r. ⌜ r ≡ coefficients (monthUnder layout (now (s .entry))) p ⌝ }
+// A ratio as a coefficient, rounded.
+fn millionths_of(r: Ratio) -> u64
+    requires { ⌜ r .part ≤ mostPart ⌝ }
+    ensures { λ k. ⌜ k ≡ millionthsOf r ⌝ }
 {
-    let hours = 24 * (layout.header.days as u32);
+    if r.whole == 0 {
+        return ONE;
+    }
+    nearest(r.part * ONE, r.whole)
+}
+
+// k1 to k10 of a producer, by its stated figures and by k1 and k4 before they are rounded.
+fn ks_of(h: Header, x: Stated, k1: Ratio, k4: Ratio) -> [u64; 10]
+    requires { ⌜ (k1 .part ≤ mostPart) × (k4 .part ≤ mostPart) ⌝ }
+    ensures { λ r. ⌜ r ≡ ksFrom h x k1 k4 ⌝ }
+{
+    let hours = 24 * (h.days as u32);
     [
-        k1_of(control, word(s, at + 4), v.support),
-        bids(hours, half(s, at + 12), half(s, at + 14)),
-        word(s, at + 18) as u64,
-        k4_of(sums),
-        plans(hours, half(s, at + 16)),
-        word(s, at + 22) as u64,
-        word(s, at + 26) as u64,
-        word(s, at + 30) as u64,
-        word(s, at + 34) as u64,
-        word(s, at + 38) as u64,
+        millionths_of(k1),
+        bids(hours, x.upward, x.downward),
+        x.k3 as u64,
+        millionths_of(k4),
+        plans(hours, x.plan),
+        x.k6 as u64,
+        x.k7 as u64,
+        x.k8 as u64,
+        x.k9 as u64,
+        x.k10 as u64,
     ]
 }
 
@@ -133,17 +138,21 @@ fn excess_of(summed: Tenths, own: u32, attested: u32) -> Tenths
 }
 
 // Producer p's excess and coefficients, before the first row.
-fn terms_of(s: &[u8], layout: Layout, p: u8, v: Volumes) -> Terms
-    requires { ⌜ (layout .header .days ≤ 31) × (hourAt layout p 0 + hoursWidth (layout .header) ≤ length (now s)) ⌝ }
+fn terms_of(s: &[u8], layout: Layout, p: u8, v: Volumes, days: ControlDays) -> Terms
+    requires { ⌜ (layout .header .days ≤ 31) × (hoursAt layout p + hoursWidth (layout .header) ≤ length (now s)) ⌝ }
     requires { ⌜ (v ≡ volumesOf (monthUnder layout (now s)) p) × Fits v ⌝ }
+    requires { ⌜ days .on ≡ listed (controlDay (layout .header)) 31 ⌝ }
     ensures { λ r. ⌜ r ≡ termsAt (monthUnder layout (now (s .entry))) p 0 ⌝ }
 {
-    let at = producer_at(layout, p);
-    let summed = summed_of(v, word(s, at + 4));
-    let excess = excess_of(summed, word(s, at + 8), word(s, at));
-    let sums = k4_sums(s, layout, p, summed);
-    let control = control_hours(s, layout, p);
-    let ks = ks_of(s, layout, p, at, v, sums, control);
+    let x = producer(s, layout, p);
+    let summed = summed_of(v, x.deductible);
+    let excess = excess_of(summed, x.needs, x.attested);
+    let hours = stretch(s, layout, p);
+    let month = layout.header.days;
+    let sums = k4_sums(hours, working_series(layout), possible_series(layout), month, summed);
+    let control = control_hours(hours, outside_series(layout), month, days);
+    let k1 = exact_k1(control, x.deductible, v.support);
+    let ks = ks_of(layout.header, x, k1, exact_k4(sums));
     Terms { excess, ks }
 }
 
@@ -163,20 +172,24 @@ fn with_terms(s: &[u8], layout: Layout) -> u8
 
 // The excess and the coefficients of six producers, before the first row.
 pub fn all_terms(s: &[u8], layout: Layout) -> AllTerms
-    ensures { λ r. ⌜ Agrees 6 noTerms (termsOf layout (now (s .entry))) (r .of) ⌝ }
+    ensures { λ r. ⌜ r .of ≡ listed (termsOf layout (now (s .entry))) 6 ⌝ }
 {
     let none = Terms {
         excess: Tenths(0),
         ks: [0; 10],
     };
     let mut of = [none; 6];
-    let volumes = row_volumes(s, layout);
     let n = with_terms(s, layout);
+    if n == 0 {
+        return AllTerms { of };
+    }
+    let volumes = row_volumes(s, layout);
+    let days = control_days(layout.header);
     let mut p: u8 = 0;
     while p < n {
         let i = p as usize;
         let v = volumes.of[i];
-        of[i] = terms_of(s, layout, p, v);
+        of[i] = terms_of(s, layout, p, v, days);
         p += 1;
     }
     AllTerms { of }

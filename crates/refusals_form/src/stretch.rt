@@ -4,7 +4,7 @@ ghost use Prim.Native.Nat.{_+_};
 ghost use lib.ListN.{length};
 ghost use Rattle.rules.specs.Outcome.{hoursStretch, within};
 use crate::form_refusal;
-use places::hours_at;
+use sheet::stretch;
 
 // Producer p's hours: that part of the lent sheet, and no copy. Empty where a number from 1 to 6 applies, or there is no producer p.
 pub fn producer_hours(s: &[u8], p: u8) -> &[u8]
@@ -19,7 +19,5 @@ pub fn producer_hours(s: &[u8], p: u8) -> &[u8]
     if layout.header.producers <= p {
         return &s[..0];
     }
-    let at = hours_at(layout, p);
-    let end = at + 288 * (layout.header.days as usize);
-    &s[at..end]
+    stretch(s, layout, p)
 }

@@ -1,4 +1,4 @@
-// Number 9 of powers that stand one after the other, and of a producer's hours. A power is taken as it stands in the machine's word, so
+// Number 9 of powers that stand one after the other, as a producer's hours do. A power is taken as it stands in the machine's word, so
 // that one instruction serves four of them. A block of 72 powers, as many as a producer's day has, is passed while each of its powers has
 // two zero bytes at the front. From the first other block on every power leaves its marks, and the marks of all are tested once.
 ghost use mathlib.Core.Path.{_≡_};
@@ -6,16 +6,12 @@ ghost use mathlib.Core.Bool.{false, _||_};
 ghost use Prim.Native.Nat.{_+_, _*_, _/_, _%_, _^_, _<_, _≤_};
 ghost use lib.ListN.{length};
 ghost use Rattle.rules.specs.Range.{any};
-ghost use Rattle.rules.specs.Month.{hours};
 ghost use Rattle.rules.specs.Fields.{bigEndian};
-ghost use Rattle.rules.specs.Sheet.{monthUnder};
-ghost use Rattle.rules.specs.Refusals.{tooHigh, highHour};
+ghost use Rattle.rules.specs.Refusals.{tooHigh};
 ghost use Rattle.refusals_powers.specs.Powers.{highPower, highPowers, highFrom};
 ghost use Rattle.refusals_powers.specs.Marks.{marked, Turned};
 use fields::word;
-use places::hours_at;
 use refusals_record::too_high;
-use rules::Layout;
 
 // What powers leave behind: the three front bytes of all, joined, and those of the powers whose last two bytes are above the ceiling's.
 struct Marks {
@@ -147,16 +143,4 @@ pub fn high_powers(part: &[u8]) -> bool
     let blocks = part.len() / 288;
     high_blocks(part, low_blocks(part))
         | one_by_one(part, 288 * blocks, part.len() / 4 - 72 * blocks)
-}
-
-// 9, of producer p's hours. Where the sheet ends before they do, the powers are looked at one by one.
-pub fn high_hours(s: &[u8], layout: Layout, p: u8) -> bool
-    ensures { λ r. ⌜ r ≡ any (highHour (monthUnder layout (now (s .entry)) .producer p)) (hours (layout .header)) ⌝ }
-{
-    let at = hours_at(layout, p);
-    let end = at + 288 * (layout.header.days as usize);
-    if s.len() < end {
-        return one_by_one(s, at, 72 * (layout.header.days as usize));
-    }
-    high_powers(&s[at..end])
 }

@@ -1,11 +1,13 @@
-// The limits that one figure, row or consumer keeps to: numbers 8 to 12, each of one record.
+// The limits that one figure, producer, row or consumer keeps to: numbers 8 to 12, each of one record.
 ghost use mathlib.Core.Path.{_≡_};
 ghost use lib.Dec.{ltb};
 ghost use Rattle.rules.specs.Units.{one};
-ghost use Rattle.rules.specs.Refusals.{tooHigh, highConsumer, badReference, tooDear, badFactor};
+ghost use Rattle.rules.specs.Refusals.{badShare, tooHigh, highConsumer, badReference, tooDear, badFactor};
+ghost use Rattle.refusals_record.specs.Stated.{withoutPower, highStated};
 use rules::Consumer;
 use rules::Header;
 use rules::Row;
+use rules::Stated;
 use units::Capacity;
 use units::ONE;
 use units::Price;
@@ -39,6 +41,23 @@ pub fn above_one(k: u32) -> bool
     ensures { λ r. ⌜ r ≡ ltb one k ⌝ }
 {
     ONE < k as u64
+}
+
+// 8, of one producer.
+pub fn bad_share(h: Header, x: Stated) -> bool
+    ensures { λ r. ⌜ r ≡ badShare h (withoutPower x) ⌝ }
+{
+    let hours = 24 * (h.days as u16);
+    let late = above_one(x.k8) | (above_one(x.k9) | above_one(x.k10));
+    let given = above_one(x.k3) | (above_one(x.k6) | (above_one(x.k7) | late));
+    (hours < x.upward) | ((hours < x.downward) | ((hours < x.plan) | given))
+}
+
+// 9, of one producer without its hours.
+pub fn high_stated(x: Stated) -> bool
+    ensures { λ r. ⌜ r ≡ highStated x ⌝ }
+{
+    too_high(x.attested) | (too_high(x.deductible) | too_high(x.needs))
 }
 
 // 10, of one row.

@@ -1,24 +1,29 @@
-// Numbers 8 to 12: the figures of producers, rows and consumers. Each record is read once.
+// The numbers of a whole sheet: all but 7, and 4 to 12 of a month under a layout. Each record is read once.
 ghost use mathlib.Core.Path.{_≡_};
-ghost use Rattle.rules.specs.Sheet.{monthUnder};
-ghost use Rattle.rules.specs.Refusals.{badShare, highProducer, figureTests, sheetTests, firstOf};
-ghost use Rattle.refusals_sheet.specs.Contents.{producerTests, rowTests, consumerTests};
-use fields::half;
-use fields::word;
-use places::producer_at;
+ghost use Prim.Native.Nat.{_≤_};
+ghost use lib.ListN.{length};
+ghost use Rattle.rules.specs.Sheet.{sheetLength, monthUnder};
+ghost use Rattle.rules.specs.Refusals.{figureTests, sheetTests, firstOf};
+ghost use Rattle.refusals_sheet.specs.Tests.{producerTests, rowTests, consumerTests};
+ghost use Rattle.refusals_sheet.specs.Numbers.{monthNumber};
 use refusals_form::first;
 use refusals_form::form_refusal;
-use refusals_powers::high_hours;
-use refusals_record::above_one;
+use refusals_form::header_refusal;
+use refusals_form::room_refusal;
+use refusals_powers::high_powers;
 use refusals_record::bad_factor;
 use refusals_record::bad_reference;
+use refusals_record::bad_share;
 use refusals_record::high_consumer;
+use refusals_record::high_stated;
 use refusals_record::too_dear;
 use refusals_record::too_high;
 use rules::Layout;
 use sheet::consumer;
 use sheet::layout;
+use sheet::producer;
 use sheet::row;
+use sheet::stretch;
 
 // What is wrong with some producer: number 8, number 9.
 struct ProducerTests {
@@ -40,37 +45,18 @@ struct ConsumerTests {
     factor: bool,
 }
 
-// 8, of producer p.
-fn bad_share(s: &[u8], layout: Layout, p: u8) -> bool
-    ensures { λ r. ⌜ r ≡ badShare (layout .header) (monthUnder layout (now (s .entry)) .producer p) ⌝ }
-{
-    let at = producer_at(layout, p);
-    let hours = 24 * (layout.header.days as u16);
-    let late = above_one(word(s, at + 30))
-        | (above_one(word(s, at + 34)) | above_one(word(s, at + 38)));
-    let given = above_one(word(s, at + 18))
-        | (above_one(word(s, at + 22)) | (above_one(word(s, at + 26)) | late));
-    (hours < half(s, at + 12)) | ((hours < half(s, at + 14)) | ((hours < half(s, at + 16)) | given))
-}
-
-// 9, of producer p.
-fn high_producer(s: &[u8], layout: Layout, p: u8) -> bool
-    ensures { λ r. ⌜ r ≡ highProducer (layout .header) (monthUnder layout (now (s .entry)) .producer p) ⌝ }
-{
-    let at = producer_at(layout, p);
-    let own = too_high(word(s, at + 8)) | high_hours(s, layout, p);
-    too_high(word(s, at)) | (too_high(word(s, at + 4)) | own)
-}
-
 fn producer_tests(s: &[u8], layout: Layout) -> ProducerTests
+    requires { ⌜ sheetLength layout ≤ length (now s) ⌝ }
     ensures { λ r. ⌜ r ≡ producerTests (monthUnder layout (now (s .entry))) ⌝ }
 {
     let mut share = false;
     let mut high = false;
     let mut p: u8 = 0;
     while p < layout.header.producers {
-        share = share | bad_share(s, layout, p);
-        high = high | high_producer(s, layout, p);
+        let x = producer(s, layout, p);
+        let hours = stretch(s, layout, p);
+        share = share | bad_share(layout.header, x);
+        high = high | (high_stated(x) | high_powers(hours));
         p += 1;
     }
     ProducerTests { share, high }
@@ -114,8 +100,9 @@ fn consumer_tests(s: &[u8], layout: Layout) -> ConsumerTests
     ConsumerTests { high, dear, factor }
 }
 
-// The first of the numbers 8 to 12 that applies to the figures that a header puts into a sheet, 0 where none does.
-pub fn figure_refusal(s: &[u8], layout: Layout) -> u8
+// The first of the numbers 8 to 12 that applies to the figures that a layout puts into a whole sheet, 0 where none does.
+fn figure_refusal(s: &[u8], layout: Layout) -> u8
+    requires { ⌜ sheetLength layout ≤ length (now s) ⌝ }
     ensures { λ r. ⌜ r ≡ firstOf (figureTests (monthUnder layout (now (s .entry)))) ⌝ }
 {
     let p = producer_tests(s, layout);
@@ -137,4 +124,20 @@ pub fn sheet_refusal(s: &[u8]) -> u8
         return form;
     }
     figure_refusal(s, layout(s))
+}
+
+// The first of the numbers 4 to 12 that applies to the month that a layout puts into a sheet, for a result buffer of so many bytes; 0
+// where none does.
+pub fn month_refusal(s: &[u8], layout: Layout, room: usize) -> u8
+    ensures { λ r. ⌜ r ≡ monthNumber layout (now (s .entry)) room ⌝ }
+{
+    let form = header_refusal(layout, s.len());
+    if form != 0 {
+        return form;
+    }
+    let short = room_refusal(layout.header, room);
+    if short != 0 {
+        return short;
+    }
+    figure_refusal(s, layout)
 }

@@ -1,3 +1,3 @@
-pub mod Numbered
+pub mod After
 pub mod Parts
 pub mod Turns

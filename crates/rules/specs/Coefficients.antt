@@ -7,11 +7,20 @@ use Rattle.rules.specs.Month.{Header, Producer, Month, hours}
 use Rattle.rules.specs.ControlHours.{controlAverage}
 use Rattle.rules.specs.Bands.{bandOf, thousandths}
 use Rattle.rules.specs.Cut.{supportVolume, summedCapacity}
+-- A part of a whole, a coefficient before it is rounded: the struct Ratio of src/lib.rt.
+pub use Rattle.rules.specs.declared.Ratio.{Ratio}
 
 -- A part of a whole as a coefficient; 1 where the whole is 0, as k4's rule has it. [Coefficients]
 unfoldable pub share : ℕ → ℕ → ℕ
 share part zero = one
 share part (suc rest) = rounded (part * one) (suc rest)
+
+abbrev pub ratio : ℕ → ℕ → Ratio
+ratio part whole = record { part = part; whole = whole }
+
+-- A ratio as a coefficient: in millionths, rounded. [Coefficients]
+unfoldable pub millionthsOf : Ratio → ℕ
+millionthsOf r = share (r .part) (r .whole)
 
 -- D of k1: the control average of outside use less deductible, not below 0. [Coefficients, k1; A2 p. 1]
 unfoldable pub overuse : Header → Producer → ℕ
@@ -22,14 +31,18 @@ unfoldable pub penalty : Header → Producer → ℕ
 penalty h p = bandOf (thousandths (overuse h p) (p .deductible)) * overuse h p
 
 -- 1 - n × D / T, not below 0. Where T is 0: 1 when n × D is 0, otherwise 0. [Coefficients, k1; A2 p. 1]
-unfoldable pub lessPenalty : ℕ → ℕ → ℕ
-lessPenalty zero zero = one
-lessPenalty zero (suc penalty) = 0
-lessPenalty (suc T) penalty = share (10 * suc T - penalty) (10 * suc T)
+unfoldable pub lessPenalty : ℕ → ℕ → Ratio
+lessPenalty zero zero = ratio 1 1
+lessPenalty zero (suc penalty) = ratio 0 1
+lessPenalty (suc T) penalty = ratio (10 * suc T - penalty) (10 * suc T)
 
--- k1: outside use beyond the deductible. [Coefficients, k1; A2 p. 1]
+-- k1 before it is rounded: outside use beyond the deductible. [Coefficients, k1; A2 p. 1]
+unfoldable pub exactK1 : Header → Producer → ℕ → Ratio
+exactK1 h p T = lessPenalty T (penalty h p)
+
+-- k1. [Coefficients, k1; A2 p. 1]
 unfoldable pub k1 : Header → Producer → ℕ → ℕ
-k1 h p T = lessPenalty T (penalty h p)
+k1 h p T = millionthsOf (exactK1 h p T)
 
 -- k2: H less the larger of the two bid counts, over H. [Coefficients, k2; A2 p. 2]
 unfoldable pub k2 : Header → Producer → ℕ
@@ -43,9 +56,13 @@ asked p S hour = min S (p .possible hour)
 unfoldable pub met : Producer → ℕ → ℕ → ℕ
 met p S hour = min (asked p S hour) (p .working hour)
 
--- k4: the sum of what is met over the sum of m; 1 where that sum is 0. [Coefficients, k4; A2 p. 4]
+-- k4 before it is rounded: the sum of what is met over the sum of m. [Coefficients, k4; A2 p. 4]
+unfoldable pub exactK4 : Header → Producer → ℕ → Ratio
+exactK4 h p S = ratio (sum (met p S) (hours h)) (sum (asked p S) (hours h))
+
+-- k4; 1 where the sum of m is 0. [Coefficients, k4; A2 p. 4]
 unfoldable pub k4 : Header → Producer → ℕ → ℕ
-k4 h p S = share (sum (met p S) (hours h)) (sum (asked p S) (hours h))
+k4 h p S = millionthsOf (exactK4 h p S)
 
 -- k5: H less the hours without a plan, over H. [Coefficients, k5; A2 p. 5]
 unfoldable pub k5 : Header → Producer → ℕ

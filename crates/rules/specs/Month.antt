@@ -2,10 +2,9 @@
 -- Capacities, powers, volumes and peaks are in tenths of a megawatt, coefficients in millionths, prices in tiyn per megawatt and month.
 -- Where a figure stands among the sheet's bytes is said in Sheet and nowhere else.
 use Prim.Native.Nat.{ℕ, _*_}
--- The header's month and counts, an hour, a contract row, a consumer: the structs Header, Hour, Row and Consumer of src/lib.rt, which code
--- shares. [Units and the sheet, Header, Producers, Rows, Consumers; p. 59]
+-- The header's month and counts, a contract row, a consumer: the structs Header, Row and Consumer of src/lib.rt, which code shares.
+-- [Units and the sheet, Header, Rows, Consumers; p. 59]
 pub use Rattle.rules.specs.declared.Header.{Header}
-pub use Rattle.rules.specs.declared.Hour.{Hour}
 pub use Rattle.rules.specs.declared.Row.{Row}
 pub use Rattle.rules.specs.declared.Consumer.{Consumer}
 

@@ -4,12 +4,12 @@ use Rattle.rules.specs.Units.{rounded, inMillionths, toTenths, money}
 use Rattle.rules.specs.ControlHours.{weekdayOn, holidayOn, controlDay, controlHour, counted, controlSum, controlCount, average, controlAverage}
 use Rattle.rules.specs.Bands.{bands, factorOf, bandOf, overNothing, thousandths}
 use Rattle.rules.specs.Cut.{owns, support, bilateral, ownVolume, ownSupport, ownBilateral, supportVolume, bilateralVolume, summedCapacity, excess, leftToCut, afterCut}
-use Rattle.rules.specs.Coefficients.{share, overuse, penalty, lessPenalty, k1, k2, asked, met, k4, k5, inOrder, coefficients}
+use Rattle.rules.specs.Coefficients.{share, millionthsOf, overuse, penalty, lessPenalty, exactK1, k1, k2, asked, met, exactK4, k4, k5, inOrder, coefficients}
 use Rattle.rules.specs.Rows.{running, through, actual, payment}
 use Rattle.rules.specs.Consumers.{credited, credit, countedPeak, overContract, percentOf, bracket, mining, volumeOf, percent, band, volume, charge}
 use Rattle.rules.specs.Totals.{totalPaid, totalCharged}
 use Rattle.rules.specs.Fields.{bigEndian, bytesOf, laid, widthOf, joined, over}
-use Rattle.rules.specs.Sheet.{lengthField, version, producerAt, hourAt, rowAt, consumerAt, sheetLength}
+use Rattle.rules.specs.Sheet.{lengthField, version, producerAt, hoursAt, power, rowAt, consumerAt, sheetLength}
 use Rattle.rules.specs.Result.{resultLength, rowRecord, consumerRecord, resultOf}
 use Rattle.rules.specs.Refusals.{oneOf, badMonth, tooMany, badShare, tooHigh, highHour, highProducer, highRow, highConsumer, badReference, tooDear, badFactor, frontTests, headerTests, formTests, roomTests, figureTests, sheetTests, tests, applies, firstOf, refusal}
 use Rattle.rules.specs.Outcome.{outcome, bufferAfter}
@@ -17,10 +17,10 @@ use Rattle.rules.specs.Samples.{month, wrong}
 
 -- From a month to its totals.
 unfoldable pub settlement : Unit {0}
-unfolding sum any when rounded inMillionths toTenths money weekdayOn holidayOn controlDay controlHour counted controlSum controlCount average controlAverage bands factorOf bandOf overNothing thousandths owns support bilateral ownVolume ownSupport ownBilateral supportVolume bilateralVolume summedCapacity excess leftToCut afterCut share overuse penalty lessPenalty k1 k2 asked met k4 k5 inOrder coefficients running through actual payment credited credit countedPeak overContract percentOf bracket mining volumeOf percent band volume charge totalPaid totalCharged month wrong
+unfolding sum any when rounded inMillionths toTenths money weekdayOn holidayOn controlDay controlHour counted controlSum controlCount average controlAverage bands factorOf bandOf overNothing thousandths owns support bilateral ownVolume ownSupport ownBilateral supportVolume bilateralVolume summedCapacity excess leftToCut afterCut share millionthsOf overuse penalty lessPenalty exactK1 k1 k2 asked met exactK4 k4 k5 inOrder coefficients running through actual payment credited credit countedPeak overContract percentOf bracket mining volumeOf percent band volume charge totalPaid totalCharged month wrong
 settlement = tt
 
 -- From a sheet's bytes to its month, its refusal, and the result's bytes.
 unfoldable pub layout : Unit {0}
-unfolding bigEndian bytesOf laid widthOf joined over lengthField version producerAt hourAt rowAt consumerAt sheetLength resultLength rowRecord consumerRecord resultOf oneOf badMonth tooMany badShare tooHigh highHour highProducer highRow highConsumer badReference tooDear badFactor frontTests headerTests formTests roomTests figureTests sheetTests tests applies firstOf refusal outcome bufferAfter
+unfolding bigEndian bytesOf laid widthOf joined over lengthField version producerAt hoursAt power rowAt consumerAt sheetLength resultLength rowRecord consumerRecord resultOf oneOf badMonth tooMany badShare tooHigh highHour highProducer highRow highConsumer badReference tooDear badFactor frontTests headerTests formTests roomTests figureTests sheetTests tests applies firstOf refusal outcome bufferAfter
 layout = tt

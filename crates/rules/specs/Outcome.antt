@@ -6,7 +6,7 @@ use mathlib.Core.List.{List}
 use lib.ListN.{length, take, drop}
 use lib.Dec.{eqb, ltb}
 use Rattle.rules.specs.Fields.{over}
-use Rattle.rules.specs.Sheet.{headerOf, layoutOf, monthOf, hourAt, hoursWidth}
+use Rattle.rules.specs.Sheet.{headerOf, layoutOf, monthOf, hoursAt, hoursWidth}
 use Rattle.rules.specs.Result.{resultLength, resultOf}
 use Rattle.rules.specs.Refusals.{formTests, firstOf, refusal}
 
@@ -40,7 +40,7 @@ pub record Stretch : Type 0 where
 unfoldable pub hoursStretch : List ℕ → ℕ → Stretch
 hoursStretch s p =
     cond (eqb (firstOf (formTests s)) 0 && ltb p (headerOf s .producers))
-    (record { place = hourAt (layoutOf s) p 0; bytes = hoursWidth (headerOf s) })
+    (record { place = hoursAt (layoutOf s) p; bytes = hoursWidth (headerOf s) })
     (record { place = 0; bytes = 0 })
 
 -- The bytes of the sheet in a stretch. [Units and the sheet]

@@ -1,10 +1,13 @@
 -- The sheet: where each figure of a month stands. No other definition knows a place in the sheet. [Units and the sheet, throughout]
 use Prim.Native.Nat.{ℕ, _+_, _*_}
 use mathlib.Core.List.{List}
-use Rattle.rules.specs.Month.{Header, Hour, Producer, Row, Consumer, Month}
+use Rattle.rules.specs.Month.{Header, Producer, Row, Consumer, Month}
 use Rattle.rules.specs.Fields.{bigEndian}
 -- The version and the header: the struct Layout of src/lib.rt. Widths and places go by it, and nothing else does.
 pub use Rattle.rules.specs.declared.Layout.{Layout}
+-- A producer's stated figures, and a series of powers: the structs Stated and Series of src/lib.rt.
+pub use Rattle.rules.specs.declared.Stated.{Stated}
+pub use Rattle.rules.specs.declared.Series.{Series}
 
 -- The header's width.
 abbrev pub headerWidth : ℕ
@@ -38,9 +41,13 @@ layoutOf s = record { version = version s; header = headerOf s }
 abbrev pub hoursWidth : Header → ℕ
 hoursWidth h = 288 * h .days
 
+-- The width of a producer's stated figures.
+abbrev pub statedWidth : ℕ
+statedWidth = 42
+
 -- The width of a producer with its hours.
 abbrev pub producerWidth : Layout → ℕ
-producerWidth l = 42 + hoursWidth (l .header)
+producerWidth l = statedWidth + hoursWidth (l .header)
 
 -- The width of a row.
 abbrev pub rowWidth : Layout → ℕ
@@ -54,9 +61,9 @@ consumerWidth l = 15
 unfoldable pub producerAt : Layout → ℕ → ℕ
 producerAt l p = headerWidth + p * producerWidth l
 
--- Where an hour of producer p begins: hours follow its other figures, hour 0 of day 1 first.
-unfoldable pub hourAt : Layout → ℕ → ℕ → ℕ
-hourAt l p hour = producerAt l p + 42 + 12 * hour
+-- Where producer p's hours begin: they follow its stated figures.
+unfoldable pub hoursAt : Layout → ℕ → ℕ
+hoursAt l p = producerAt l p + statedWidth
 
 -- Where row j begins: rows follow the producers.
 unfoldable pub rowAt : Layout → ℕ → ℕ
@@ -71,30 +78,71 @@ consumerAt l c = rowAt l (l .header .rows) + consumerWidth l * c
 unfoldable pub sheetLength : Layout → ℕ
 sheetLength l = consumerAt l (l .header .consumers)
 
--- The hour whose powers begin at a place.
-abbrev pub hourOf : List ℕ → ℕ → Hour
-hourOf s at = record { working = bigEndian 4 s at; possible = bigEndian 4 s (at + 4); outside = bigEndian 4 s (at + 8) }
-
--- The producer whose figures begin at a place, with the place of each of its hours.
-abbrev pub producerOf : List ℕ → ℕ → (ℕ → ℕ) → Producer
-producerOf s at hour =
+-- The stated figures of the producer that begins at a place.
+abbrev pub statedOf : List ℕ → ℕ → Stated
+statedOf s at =
     record {
       attested = bigEndian 4 s at;
       deductible = bigEndian 4 s (at + 4);
-      ownNeeds = bigEndian 4 s (at + 8);
-      noUpwardBid = bigEndian 2 s (at + 12);
-      noDownwardBid = bigEndian 2 s (at + 14);
-      noPlan = bigEndian 2 s (at + 16);
+      needs = bigEndian 4 s (at + 8);
+      upward = bigEndian 2 s (at + 12);
+      downward = bigEndian 2 s (at + 14);
+      plan = bigEndian 2 s (at + 16);
       k3 = bigEndian 4 s (at + 18);
       k6 = bigEndian 4 s (at + 22);
       k7 = bigEndian 4 s (at + 26);
       k8 = bigEndian 4 s (at + 30);
       k9 = bigEndian 4 s (at + 34);
       k10 = bigEndian 4 s (at + 38);
-      working = λ i. hourOf s (hour i) .working;
-      possible = λ i. hourOf s (hour i) .possible;
-      outsideUse = λ i. hourOf s (hour i) .outside;
     }
+
+abbrev pub series : ℕ → ℕ → Series
+series start step = record { start = start; step = step }
+
+-- A producer's working powers in the stretch of its hours: an hour's three powers follow each other, hour 0 of day 1 first.
+abbrev pub workingSeries : Layout → Series
+workingSeries l = series 0 12
+
+-- Its possible powers.
+abbrev pub possibleSeries : Layout → Series
+possibleSeries l = series 4 12
+
+-- Its outside-use powers.
+abbrev pub outsideSeries : Layout → Series
+outsideSeries l = series 8 12
+
+-- The power that a series has in an hour, in the stretch that begins at a place.
+unfoldable pub power : List ℕ → ℕ → Series → ℕ → ℕ
+power s at x hour = bigEndian 4 s (at + (x .start + x .step * hour))
+
+-- A producer by its stated figures and its series of working, possible and outside-use powers.
+abbrev pub producerOf : Stated → (ℕ → ℕ) → (ℕ → ℕ) → (ℕ → ℕ) → Producer
+producerOf x working possible outside =
+    record {
+      attested = x .attested;
+      deductible = x .deductible;
+      ownNeeds = x .needs;
+      noUpwardBid = x .upward;
+      noDownwardBid = x .downward;
+      noPlan = x .plan;
+      k3 = x .k3;
+      k6 = x .k6;
+      k7 = x .k7;
+      k8 = x .k8;
+      k9 = x .k9;
+      k10 = x .k10;
+      working = working;
+      possible = possible;
+      outsideUse = outside;
+    }
+
+-- Producer p under a layout.
+abbrev pub producerUnder : Layout → List ℕ → ℕ → Producer
+producerUnder l s p =
+    producerOf (statedOf s (producerAt l p))
+    (power s (hoursAt l p) (workingSeries l))
+    (power s (hoursAt l p) (possibleSeries l))
+    (power s (hoursAt l p) (outsideSeries l))
 
 -- The row whose figures begin at a place.
 abbrev pub rowOf : List ℕ → ℕ → Row
@@ -118,7 +166,7 @@ abbrev pub monthUnder : Layout → List ℕ → Month
 monthUnder l s =
     record {
       header = l .header;
-      producer = λ p. producerOf s (producerAt l p) (hourAt l p);
+      producer = producerUnder l s;
       row = λ j. rowOf s (rowAt l j);
       consumer = λ c. consumerOf s (consumerAt l c);
     }

@@ -18,11 +18,28 @@ pub struct Layout {
     pub header: Header,
 }
 
-// An hour of a producer: working, possible and outside-use power, in tenths of a megawatt.
-pub struct Hour {
-    pub working: u32,
-    pub possible: u32,
-    pub outside: u32,
+// A producer's stated figures: attested capacity, deductible capacity and greatest own needs, in tenths of a megawatt; hours without an
+// upward bid, without a downward bid, without a plan; the given coefficients, in millionths.
+pub struct Stated {
+    pub attested: u32,
+    pub deductible: u32,
+    pub needs: u32,
+    pub upward: u16,
+    pub downward: u16,
+    pub plan: u16,
+    pub k3: u32,
+    pub k6: u32,
+    pub k7: u32,
+    pub k8: u32,
+    pub k9: u32,
+    pub k10: u32,
+}
+
+// A series of hourly powers in a stretch of bytes, four bytes each: where the first power begins, and how far each begins from the one
+// before it.
+pub struct Series {
+    pub start: u16,
+    pub step: u16,
 }
 
 // A contract row: the producer, the consumer (255 for the single buyer), the volume in tenths of a megawatt, the price in tiyn per
@@ -49,4 +66,10 @@ pub struct Consumer {
 pub struct Band {
     pub edge: u32,
     pub factor: u8,
+}
+
+// A part of a whole: a coefficient before it is rounded.
+pub struct Ratio {
+    pub part: u64,
+    pub whole: u64,
 }

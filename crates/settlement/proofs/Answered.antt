@@ -10,7 +10,8 @@ use Rattle.rules.specs.Result.{resultLength}
 use Rattle.rules.specs.Refusals.{frontTests, headerTests, formTests, roomTests, figureTests, tests, applies, firstOf, refusal}
 use Rattle.rules.specs.Outcome.{refused, written, outcome, bufferAfter}
 use Rattle.laws.proofs.Refusals.{none-applies, first-stands, first-next, not-true, front-numbered}
-use Rattle.result.specs.Numbers.{monthNumber, monthAfter}
+use Rattle.refusals_sheet.specs.Numbers.{monthNumber}
+use Rattle.result.specs.After.{monthAfter}
 
 module _ (s : List ℕ) (room : ℕ) where
   -- The tests past the first three, with the length that the sheet states.

@@ -1,15 +1,23 @@
-// What a sheet says in its version, its header, its rows and its consumers.
+// What a sheet says in its version, its header, its producers, its rows and its consumers.
 ghost use mathlib.Core.Path.{_≡_};
-ghost use Prim.Native.Nat.{_≤_};
+ghost use Prim.Native.Nat.{_+_, _≤_};
+ghost use lib.ListN.{length};
 ghost use Rattle.rules.specs.Sheet.{headerOf, layoutOf, rowAt, consumerAt, rowOf, consumerOf};
+ghost use Rattle.rules.specs.Outcome.{within};
+ghost use Rattle.sheet.specs.Producers.{noneStated, statedIn, stretchIn};
 use fields::byte;
+use fields::half;
 use fields::word;
 use places::consumer_at;
+use places::hours_at;
+use places::hours_width;
+use places::producer_at;
 use places::row_at;
 use rules::Consumer;
 use rules::Header;
 use rules::Layout;
 use rules::Row;
+use rules::Stated;
 
 // The header's month and counts.
 pub fn header(s: &[u8]) -> Header
@@ -34,6 +42,65 @@ pub fn layout(s: &[u8]) -> Layout
         version: byte(s, 4),
         header: h,
     }
+}
+
+// Nothing stated.
+fn none_stated() -> Stated
+    ensures { λ r. ⌜ r ≡ noneStated ⌝ }
+{
+    Stated {
+        attested: 0,
+        deductible: 0,
+        needs: 0,
+        upward: 0,
+        downward: 0,
+        plan: 0,
+        k3: 0,
+        k6: 0,
+        k7: 0,
+        k8: 0,
+        k9: 0,
+        k10: 0,
+    }
+}
+
+// Producer p's stated figures. One part of the sheet is lent for them, so that each is one load.
+pub fn producer(s: &[u8], layout: Layout, p: u8) -> Stated
+    ensures { λ r. ⌜ r ≡ statedIn layout (now (s .entry)) p ⌝ }
+{
+    let at = producer_at(layout, p);
+    let stated_end = at + 42;
+    if s.len() < stated_end {
+        return none_stated();
+    }
+    let part = &s[at..stated_end];
+    Stated {
+        attested: word(part, 0),
+        deductible: word(part, 4),
+        needs: word(part, 8),
+        upward: half(part, 12),
+        downward: half(part, 14),
+        plan: half(part, 16),
+        k3: word(part, 18),
+        k6: word(part, 22),
+        k7: word(part, 26),
+        k8: word(part, 30),
+        k9: word(part, 34),
+        k10: word(part, 38),
+    }
+}
+
+// The stretch of producer p's hours: that part of the lent sheet, and no copy. Empty where the sheet ends before it does.
+pub fn stretch(s: &[u8], layout: Layout, p: u8) -> &[u8]
+    ensures { λ r. ⌜ now r ≡ within (stretchIn layout (length (now (s .entry))) p) (now (s .entry)) ⌝ }
+    ensures place { λ r. ⌜ (r .ptr .0 ≡ s .entry .ptr .0) × (r .ptr .1 ≡ stretchIn layout (length (now (s .entry))) p .place + s .entry .ptr .1) ⌝ }
+{
+    let at = hours_at(layout, p);
+    let end = at + hours_width(layout.header);
+    if s.len() < end {
+        return &s[..0];
+    }
+    &s[at..end]
 }
 
 // A row near the sheet's end: a byte past the end counts as 0.

@@ -7,7 +7,7 @@ use borrow.Author.Tests.{eq-eqb, ne-eqb}
 use Rattle.rules.specs.declared.Consumer.{Consumer}
 use Rattle.rules.specs.Limits.{SheetLimits}
 use Rattle.rules.specs.Fields.{over}
-use Rattle.rules.specs.Sheet.{headerOf, layoutOf, monthOf, hoursWidth, hourAt}
+use Rattle.rules.specs.Sheet.{headerOf, layoutOf, monthOf, hoursWidth, hoursAt}
 use Rattle.rules.specs.Cut.{excess, afterCut, cutInOrder, ownRows}
 use Rattle.rules.specs.Consumers.{volumeOf}
 use Rattle.rules.specs.Result.{rowFigures, consumerFigures, totalFigures, rowFields, consumerFields, totalFields, resultLength, resultOf, readRow, readConsumer, readTotals}
@@ -83,8 +83,8 @@ module _ (s out : List ℕ) where
 
 -- The hours of a producer below P, of a sheet that numbers 1 to 6 let pass: a stretch of 288 × days bytes inside the sheet.
 pub stretch-inside : (s : List ℕ) (p : ℕ) → firstOf (formTests s) ≡ 0 → p < headerOf s .producers
-    → (hoursStretch s p ≡ record { place = hourAt (layoutOf s) p 0; bytes = hoursWidth (headerOf s) })
-    × (hourAt (layoutOf s) p 0 + hoursWidth (headerOf s) ≤ length s)
+    → (hoursStretch s p ≡ record { place = hoursAt (layoutOf s) p; bytes = hoursWidth (headerOf s) })
+    × (hoursAt (layoutOf s) p + hoursWidth (headerOf s) ≤ length s)
 stretch-inside s p e l = (Refusals.stretch-there s p e l, Refusals.stretch-ends s p e l)
 
 -- Demand 3 --------------------------------------------------------------------------------------------------------------------------

@@ -9,7 +9,7 @@ use Rattle.rules.specs.Units.{one}
 use Rattle.rules.specs.declared.Header.{Header}
 use Rattle.rules.specs.Month.{Producer, hours}
 use Rattle.rules.specs.ControlHours.{controlHour, counted, controlSum, controlCount, average, controlAverage}
-use Rattle.rules.specs.Coefficients.{share, overuse, penalty, lessPenalty, k1, k2, asked, met, k4, k5, inOrder}
+use Rattle.rules.specs.Coefficients.{share, millionthsOf, overuse, penalty, lessPenalty, exactK1, k1, k2, asked, met, exactK4, k4, k5, inOrder}
 use Rattle.laws.proofs.Range.{sum-mono, sum-same, when-mono}
 use Rattle.laws.proofs.Units.{rounded-mono}
 use Rattle.theorems.specs.Demand3.{WorseProducer}
@@ -21,12 +21,12 @@ unfolding share
 share-mono zero h = le-refl one
 share-mono (suc rest) h = rounded-mono (suc rest) (mul-le-mul-right one h)
 
-penalty-down : (T x y : ℕ) → x ≤ y → lessPenalty T y ≤ lessPenalty T x
-unfolding lessPenalty
-penalty-down zero zero zero h = le-refl one
-penalty-down zero zero (suc y) h = zero-le
+penalty-down : (T x y : ℕ) → x ≤ y → millionthsOf (lessPenalty T y) ≤ millionthsOf (lessPenalty T x)
+unfolding millionthsOf lessPenalty
+penalty-down zero zero zero h = le-refl (share 1 1)
+penalty-down zero zero (suc y) h = share-mono 1 zero-le
 penalty-down zero (suc x) zero h = absurd (not-suc-le-zero h)
-penalty-down zero (suc x) (suc y) h = zero-le
+penalty-down zero (suc x) (suc y) h = le-refl (share 0 1)
 penalty-down (suc T) x y h = share-mono (10 * suc T) (omega arith)
 
 average-mono : (n : ℕ) {x y : ℕ} → x ≤ y → average x n ≤ average y n
@@ -49,7 +49,7 @@ pub data NoMore : List ℕ → List ℕ → Type 0 where
 
 module _ (h : Header) (p p′ : Producer) (w : WorseProducer (hours h) p p′) where
   k1-down : (T : ℕ) → k1 h p′ T ≤ k1 h p T
-  unfolding k1 penalty
+  unfolding k1 exactK1 penalty
   k1-down T = penalty-down T _ _ (mul-le-mul (band-mono (thousandths-mono (sym (w .deductible)) overuse-up)) overuse-up)
     where
       overuse-up : overuse h p ≤ overuse h p′
@@ -60,7 +60,7 @@ module _ (h : Header) (p p′ : Producer) (w : WorseProducer (hours h) p p′) w
   k2-down = share-mono (hours h) (omega (arith, w .noUpwardBid, w .noDownwardBid))
 
   k4-down : (S : ℕ) → k4 h p′ S ≤ k4 h p S
-  unfolding k4
+  unfolding k4 exactK4 millionthsOf
   k4-down S = rw same-asked (share-mono _ (sum-mono (met p′ S) (met p S) refl met-down))
     where
       asked-at : (i : ℕ) → i < hours h → asked p′ S i ≡ asked p S i

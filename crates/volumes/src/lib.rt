@@ -3,7 +3,7 @@ ghost use mathlib.Core.Path.{_≡_};
 ghost use Prim.Native.Nat.{ℕ, _<_};
 ghost use lib.ListN.{getD};
 ghost use Rattle.rules.specs.Sheet.{monthUnder};
-ghost use Rattle.laws.proofs.Arrays.{Agrees};
+ghost use Rattle.laws.specs.Lists.{listed};
 ghost use Rattle.volumes.specs.Volumes.{Fits, volumesOf, noVolumes, withRow};
 use rules::Layout;
 use rules::Row;
@@ -44,7 +44,7 @@ fn with_row(v: Volumes, r: Row) -> Volumes
 
 // T and B of six producers. A row of another producer counts for none.
 pub fn row_volumes(s: &[u8], layout: Layout) -> AllVolumes
-    ensures { λ r. ⌜ Agrees 6 noVolumes (volumesOf (monthUnder layout (now (s .entry)))) (r .of) ⌝ }
+    ensures { λ r. ⌜ r .of ≡ listed (volumesOf (monthUnder layout (now (s .entry)))) 6 ⌝ }
     ensures fits { λ r. ⌜ ((p : ℕ) → p < 6 → Fits (getD (r .of) p noVolumes)) ⌝ }
 {
     let none = Volumes {

@@ -1,5 +1,5 @@
 use native.Mathlib.Omega.{arith}
-use Rattle.rules.specs.Sheet.{hourAt}
+use Rattle.rules.specs.Sheet.{hoursAt}
 use borrow.Author.Needs.{needs}
 use Rattle.places.proofs.hours_at.Statement.{statement}
 use Rattle.places.proofs.hours_at.Tie as tie
@@ -11,7 +11,7 @@ add-result : tie.Need-add-result
 add-result c = search needs
 
 returns : tie.Need-returns
-unfolding hourAt
+unfolding hoursAt
 returns c = (omega arith, omega arith)
 
 pub hours-at-spec : {M : Type 1} → statement M

@@ -1,38 +1,51 @@
 use borrow.Author.Needs.{needs}
 use native.Mathlib.Omega.{arith}
-use mathlib.Core.Path.{_≡_}
+use mathlib.Core.Path.{_≡_, sym, _∙_}
 use Prim.Native.Nat.{_-_, _≤_, _<_, zero-le}
 use native.Mathlib.Nat.{le-trans}
 use lib.ListN.{length}
 use Rattle.rules.specs.Sheet.{sheetLength, monthUnder}
 use Rattle.laws.proofs.Sheet.{hours-inside}
-use Rattle.producers.specs.Terms.{withTerms, Known}
-use Rattle.producers.proofs.Cuts.{VolumesKnown, known-none, known-more}
+use Rattle.rules.specs.ControlHours.{controlDay}
+use Rattle.laws.specs.Lists.{listed}
+use Rattle.laws.proofs.Arrays.{agrees-listed, listed-agrees, filled-none, filled-more}
+use Rattle.producers.specs.Terms.{noTerms, zeroTerms, withTerms, Known}
+use Rattle.producers.proofs.Cuts.{VolumesKnown}
 use Rattle.producers.proofs.all_terms.Statement.{statement}
 use Rattle.producers.proofs.all_terms.Tie as tie
 
 abbrev Inv-loop : tie.InvT-loop
-Inv-loop s layout of₀ volumes n p₀ of p =
+Inv-loop s layout of₀ n volumes days p₀ of p =
     Known (monthUnder layout s) 0 p of
     × (p ≤ n)
     × VolumesKnown (monthUnder layout s) (volumes .of)
     × (n ≡ withTerms layout s)
     × (n ≤ 6)
     × (0 < n → (layout .header .days ≤ 31) × (n ≤ layout .header .producers) × (sheetLength layout ≤ length s))
+    × (days .on ≡ listed (controlDay (layout .header)) 31)
 
 abbrev μ-loop : tie.MeasureT-loop
-μ-loop s layout of₀ volumes n p₀ of p = n - p
-
-row-volumes-requires : tie.Need-row-volumes-requires Inv-loop μ-loop
-row-volumes-requires c κs = search needs
+μ-loop s layout of₀ n volumes days p₀ of p = n - p
 
 with-terms-requires : tie.Need-with-terms-requires Inv-loop μ-loop
 with-terms-requires c κs = search needs
 
+returns : tie.Need-returns Inv-loop μ-loop
+returns c =
+    let none = sym (c .before .with-terms .ensures .0) ∙ c .if1 .taken in
+    rw none (agrees-listed (filled-none 6 noTerms zeroTerms _))
+
+row-volumes-requires : tie.Need-row-volumes-requires Inv-loop μ-loop
+row-volumes-requires c κs = search needs
+
+control-days-requires : tie.Need-control-days-requires Inv-loop μ-loop
+control-days-requires c κs = search needs
+
 loop-holds : tie.Need-loop-holds Inv-loop μ-loop
 loop-holds c =
-    let n = c .with-terms .ensures in
-    (known-none _, zero-le, c .before .row-volumes .ensures, n .0, n .1, n .2)
+    let n = c .before .before .before .with-terms .ensures in
+    let v = c .before .row-volumes .ensures in
+    (filled-none 6 noTerms zeroTerms _, zero-le, (listed-agrees (v .0), v .1), n .0, n .1, n .2, c .control-days .ensures)
 
 cast-i : tie.Need-cast-i Inv-loop μ-loop
 cast-i c = search needs
@@ -48,9 +61,9 @@ terms-of-requires c κs =
     let inv = c .before .before .loop .inv in
     let some = inv .5 (omega arith) in
     let p : c .before .before .loop .p < 6 = omega arith in
-    let h = c .before .before .before .before .before .before .args .layout in (
+    let h = c .before .before .before .before .before .before .before .before .args .layout in (
       (some .0, le-trans (hours-inside h (c .before .before .loop .p) (omega (arith, some .1))) (some .2)),
-      (inv .2 .0 .each _ p, inv .2 .1 _ p),
+      ((inv .2 .0 .each _ p, inv .2 .1 _ p), inv .6),
     )
 
 mul-of : tie.Need-mul-of Inv-loop μ-loop
@@ -68,13 +81,14 @@ loop-less c = omega arith
 loop-again : tie.Need-loop-again Inv-loop μ-loop
 loop-again c =
     let inv = c .before .before .before .loop .inv in
-    (known-more _ _ _ _ (inv .0) (omega arith) (c .terms-of .ensures), omega arith, inv .2, inv .3, inv .4, inv .5)
+    (filled-more 6 noTerms zeroTerms _ _ (omega arith) (c .terms-of .ensures) (inv .0), omega arith, inv .2, inv .3, inv .4, inv .5, inv .6)
 
-returns : tie.Need-returns Inv-loop μ-loop
-returns c =
+returns-2 : tie.Need-returns-2 Inv-loop μ-loop
+returns-2 c =
     let inv = c .before .loop .inv in
-    let end : c .before .loop .p ≡ withTerms (c .before .before .before .before .before .args .layout) (c .before .before .before .before .before .args .s .now) = omega arith in
-    rw end at (inv .0)
+    let a = c .before .before .before .before .before .before .before .args in
+    let end : c .before .loop .p ≡ withTerms (a .layout) (a .s .now) = omega arith in
+    agrees-listed (rw end at (inv .0))
 
 pub all-terms-spec : {M : Type 1} → statement M
 all-terms-spec =
@@ -82,8 +96,10 @@ all-terms-spec =
     (tie.spec
     Inv-loop
     μ-loop
-    row-volumes-requires
     with-terms-requires
+    returns
+    row-volumes-requires
+    control-days-requires
     loop-holds
     cast-i
     mul-v
@@ -94,4 +110,4 @@ all-terms-spec =
     add-p
     loop-less
     loop-again
-    returns)
+    returns-2)

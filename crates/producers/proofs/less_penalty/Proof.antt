@@ -8,10 +8,10 @@ use Rattle.producers.proofs.less_penalty.Tie as tie
 
 returns : tie.Need-returns
 unfolding lessPenalty
-returns c = rw (c .before .if1 .taken, c .if2 .taken)
+returns c = (rw (c .before .if1 .taken, c .if2 .taken), omega arith)
 
 returns-2 : tie.Need-returns-2
-returns-2 c = rw (c .before .if1 .taken, penalty-of-none _ (c .if2 .left))
+returns-2 c = (rw (c .before .if1 .taken, penalty-of-none _ (c .if2 .left)), omega arith)
 
 mul-whole : tie.Need-mul-whole
 mul-whole c = search needs
@@ -19,18 +19,11 @@ mul-whole c = search needs
 less-requires : tie.Need-less-requires
 less-requires c κs = search needs
 
-mul-nearest : tie.Need-mul-nearest
-mul-nearest c = search needs
-
-nearest-requires : tie.Need-nearest-requires
-nearest-requires c κs = search needs
-
 returns-3 : tie.Need-returns-3
 returns-3 c =
-    let some : 0 < c .before .before .before .before .before .args .support .0 = omega arith in
-    rw (c .nearest .ensures, c .before .less .ensures, penalty-of-some _ _ some)
+    let a = c .before .before .before .before in
+    let some : 0 < a .args .support .0 = omega arith in
+    (rw (c .less .ensures, penalty-of-some _ _ some), omega (arith, c .less .ensures, a .pre))
 
 pub less-penalty-spec : {M : Type 1} → statement M
-less-penalty-spec =
-    tie.close
-    (tie.spec returns returns-2 mul-whole less-requires mul-nearest nearest-requires returns-3)
+less-penalty-spec = tie.close (tie.spec returns returns-2 mul-whole less-requires returns-3)

@@ -1,102 +1,98 @@
 use native.Mathlib.Omega.{arith}
 use mathlib.Core.Path.{_≡_, ap, _∙_}
-use Prim.Native.Nat.{ℕ, _+_}
-use Rattle.rules.specs.Fields.{bigEndian}
+use mathlib.Core.List.{List}
+use Prim.Native.Nat.{ℕ, _+_, _≤_}
+use lib.ListN.{length}
+use Rattle.rules.specs.declared.Layout.{Layout}
+use Rattle.rules.specs.declared.Ratio.{Ratio}
+use Rattle.rules.specs.declared.Stated.{Stated}
+use Rattle.rules.specs.Sheet.{hoursWidth, hoursAt, producerAt, statedOf, producerUnder, monthUnder}
 use Rattle.rules.specs.Cut.{summedCapacity}
-use Rattle.rules.specs.Sheet.{monthUnder}
-use Rattle.hours.specs.Sums.{k4Of}
-use Rattle.hours.proofs.Inside.{k4-inside}
-use Rattle.control.proofs.Inside.{control-inside}
+use Rattle.rules.specs.Coefficients.{exactK1}
 use Rattle.units.specs.Sums.{tenths}
-use Rattle.producers.proofs.Cuts.{summed-is, left-first}
+use Rattle.sheet.specs.Producers.{statedIn}
+use Rattle.sheet.proofs.Whole.{stated-whole}
+use Rattle.volumes.specs.declared.Volumes.{Volumes}
+use Rattle.producers.proofs.Cuts.{summed-is, left-stated, ks-known}
+use Rattle.producers.proofs.Hours.{k1-known, k4-known}
 use borrow.Author.Needs.{needs}
 use Rattle.producers.proofs.terms_of.Statement.{statement}
 use Rattle.producers.proofs.terms_of.Tie as tie
 
-producer-at-requires : tie.Need-producer-at-requires
-producer-at-requires c κs = search needs
+-- The producer is whole in the sheet.
+whole : (l : Layout) (s : List ℕ) (p : ℕ) → hoursAt l p + hoursWidth (l .header) ≤ length s → statedIn l s p ≡ statedOf s (producerAt l p)
+whole l s p fits = stated-whole l s p (unfold hoursAt in omega (arith, fits))
 
-add-word : tie.Need-add-word
-add-word c = search needs
-
-word-requires : tie.Need-word-requires
-word-requires c κs = search needs
+producer-requires : tie.Need-producer-requires
+producer-requires c κs = search needs
 
 summed-of-requires : tie.Need-summed-of-requires
 summed-of-requires c κs = search needs
 
-add-word-2 : tie.Need-add-word-2
-add-word-2 c = search needs
-
-word-requires-2 : tie.Need-word-requires-2
-word-requires-2 c κs = search needs
-
-word-requires-3 : tie.Need-word-requires-3
-word-requires-3 c κs = search needs
-
 excess-of-requires : tie.Need-excess-of-requires
 excess-of-requires c κs = search needs
+
+stretch-requires : tie.Need-stretch-requires
+stretch-requires c κs = search needs
+
+working-series-requires : tie.Need-working-series-requires
+working-series-requires c κs = search needs
+
+possible-series-requires : tie.Need-possible-series-requires
+possible-series-requires c κs = search needs
 
 k4-sums-requires : tie.Need-k4-sums-requires
 k4-sums-requires c κs = search needs
 
+outside-series-requires : tie.Need-outside-series-requires
+outside-series-requires c κs = search needs
+
 control-hours-requires : tie.Need-control-hours-requires
 control-hours-requires c κs = search needs
 
--- S is the definitions'.
-summed : (c : tie.After-summed-of) → c .summed-of .result .0 ≡ summedCapacity (monthUnder (c .before .before .before .before .args .layout) (c .before .before .before .before .args .s .now)) (c .before .before .before .before .args .p)
-summed c =
-    let a = c .before .before .before .before in
-    let d = c .before .word .ensures ∙ ap (λ (x : ℕ). bigEndian 4 (a .args .s .now) (x + 4)) (c .before .before .producer-at .ensures .0) in
-    c .summed-of .ensures ∙ summed-is (monthUnder (a .args .layout) (a .args .s .now)) (a .args .p) (a .args .v) _ (a .pre .1 .0) d
+exact-k1-requires : tie.Need-exact-k1-requires
+exact-k1-requires c κs = (c .control-hours .ensures .1, c .before .before .before .before .before .before .before .before .before .before .pre .1 .0 .1 .0)
 
-abbrev summing : tie.After-control-hours → tie.After-summed-of
-summing c = c .before .before .before .before .before
+exact-k4-requires : tie.Need-exact-k4-requires
+exact-k4-requires c κs = search needs
 
 ks-of-requires : tie.Need-ks-of-requires
 ks-of-requires c κs =
-    let u = summing c in
-    let a = u .before .before .before .before in
-    let m = monthUnder (a .args .layout) (a .args .s .now) in
-    let at = u .before .before .producer-at .ensures in
-    let v = a .pre .1 in
-    let sums = c .before .k4-sums .ensures in
-    let control = c .control-hours .ensures in (
-      (a .pre .0 .0, at .0, at .1),
-      (
-        (v .0, v .1 .0),
-        (
-          (
-            sums .0 ∙ k4-inside (a .args .layout) (a .args .s .now) (a .args .p) _ (a .pre .0 .1) ∙ ap (k4Of (a .args .layout .header) (m .producer (a .args .p))) (summed u),
-            sums .1 .1,
-          ),
-          (control .0 ∙ control-inside (a .args .layout) (a .args .s .now) (a .args .p) (a .pre .0 .1), control .1),
-        ),
-      ),
-    )
+    (c .before .exact-k1 .ensures .1, omega (arith, ap (λ (r : Ratio). r .part) (c .exact-k4 .ensures), c .before .before .before .before .k4-sums .ensures .1 .1, c .before .before .before .before .before .before .before .before .before .before .before .before .pre .0 .0))
 
 returns : tie.Need-returns
 returns c =
-    let u = c .before .before .before .before .before .before in
-    let a = u .before .before .before .before in
-    let at = u .before .before .producer-at .ensures .0 in
-    let own = c .before .before .before .before .before .word2 .ensures ∙ ap (λ (x : ℕ). bigEndian 4 (a .args .s .now) (x + 8)) at in
-    let attested = c .before .before .before .before .word3 .ensures ∙ ap (λ (x : ℕ). bigEndian 4 (a .args .s .now) x) at in
-    rw (ap tenths (c .before .before .before .excess-of .ensures), summed u, own, attested, c .ks-of .ensures, left-first)
+    let a = c .before .before .before .before .before .before .before .before .before .before .before .before .before in
+    let l = a .args .layout in
+    let s = a .args .s .now in
+    let p = a .args .p in
+    let fits = a .pre .0 .1 in
+    let m = monthUnder l s in
+    let x = c .before .before .before .before .before .before .before .before .before .before .before .producer .ensures ∙ whole l s p fits in
+    let summed = c .before .before .before .before .before .before .before .before .before .before .summed-of .ensures ∙ summed-is m p (a .args .v) _ (a .pre .1 .0 .0) (ap (λ (y : Stated). y .deductible) x) in
+    let lent = c .before .before .before .before .before .before .before .before .stretch .ensures .0 in
+    let sums = rw (c .before .before .before .before .before .before .before .working-series .ensures, c .before .before .before .before .before .before .possible-series .ensures, summed) at (c .before .before .before .before .before .k4-sums .ensures .0) in
+    let fourth = k4-known l s p fits lent (summedCapacity m p) sums (c .before .exact-k4 .ensures) in
+    let counted = rw (c .before .before .before .before .outside-series .ensures) at (c .before .before .before .control-hours .ensures .0) in
+    let first = k1-known l s p fits lent (a .pre .0 .0) (a .pre .1 .1) (a .args .v .support .0) counted x (c .before .before .exact-k1 .ensures .0)
+        ∙ ap (λ (v : Volumes). exactK1 (l .header) (producerUnder l s p) (v .support .0)) (a .pre .1 .0 .0) in
+    let excess = left-stated l s p x summed (c .before .before .before .before .before .before .before .before .before .excess-of .ensures) in
+    rw (ap tenths excess, c .ks-of .ensures ∙ ks-known l s p x first fourth)
 
 pub terms-of-spec : {M : Type 1} → statement M
 terms-of-spec =
     tie.close
     (tie.spec
-    producer-at-requires
-    add-word
-    word-requires
+    producer-requires
     summed-of-requires
-    add-word-2
-    word-requires-2
-    word-requires-3
     excess-of-requires
+    stretch-requires
+    working-series-requires
+    possible-series-requires
     k4-sums-requires
+    outside-series-requires
     control-hours-requires
+    exact-k1-requires
+    exact-k4-requires
     ks-of-requires
     returns)

@@ -6,6 +6,7 @@ use Rattle.rules.specs.Range.{any}
 use Rattle.rules.specs.Sheet.{monthUnder}
 use Rattle.laws.proofs.Range.{any-start, any-fold, any-done}
 use Rattle.rules.specs.Refusals.{badShare, highProducer}
+use Rattle.refusals_sheet.proofs.Hours.{share-found, high-found}
 use Rattle.refusals_sheet.proofs.producer_tests.Statement.{statement}
 use Rattle.refusals_sheet.proofs.producer_tests.Tie as tie
 
@@ -21,11 +22,20 @@ abbrev μ-loop : tie.MeasureT-loop
 loop-holds : tie.Need-loop-holds Inv-loop μ-loop
 loop-holds c = (sym (any-start _), sym (any-start _), zero-le)
 
+producer-requires : tie.Need-producer-requires Inv-loop μ-loop
+producer-requires c κs = search needs
+
+stretch-requires : tie.Need-stretch-requires Inv-loop μ-loop
+stretch-requires c κs = search needs
+
 bad-share-requires : tie.Need-bad-share-requires Inv-loop μ-loop
 bad-share-requires c κs = search needs
 
-high-producer-requires : tie.Need-high-producer-requires Inv-loop μ-loop
-high-producer-requires c κs = search needs
+high-stated-requires : tie.Need-high-stated-requires Inv-loop μ-loop
+high-stated-requires c κs = search needs
+
+high-powers-requires : tie.Need-high-powers-requires Inv-loop μ-loop
+high-powers-requires c κs = search needs
 
 add-p : tie.Need-add-p Inv-loop μ-loop
 add-p c = omega arith
@@ -34,7 +44,13 @@ loop-less : tie.Need-loop-less Inv-loop μ-loop
 loop-less c = omega arith
 
 loop-again : tie.Need-loop-again Inv-loop μ-loop
-loop-again c = (any-fold _ _ (c .before .before .before .before .loop .inv .0) (c .before .bad-share .ensures), any-fold _ _ (c .before .before .before .before .loop .inv .1) (c .high-producer .ensures), omega arith)
+loop-again c =
+    let a = c .before .before .before .before .before .before .before .before .before in
+    let x = c .before .before .before .before .producer .ensures in (
+      any-fold _ _ (c .before .before .before .before .before .before .before .loop .inv .0) (share-found (a .args .layout) (a .args .s .now) (c .before .before .before .before .before .before .before .loop .p) (a .pre) (omega arith) x (c .before .before .bad-share .ensures)),
+      any-fold _ _ (c .before .before .before .before .before .before .before .loop .inv .1) (high-found (a .args .layout) (a .args .s .now) (c .before .before .before .before .before .before .before .loop .p) (a .pre) (omega arith) x (c .before .high-stated .ensures) (c .before .before .before .stretch .ensures .0) (c .high-powers .ensures)),
+      omega arith,
+    )
 
 returns : tie.Need-returns Inv-loop μ-loop
 returns c =
@@ -50,8 +66,11 @@ producer-tests-spec =
     Inv-loop
     μ-loop
     loop-holds
+    producer-requires
+    stretch-requires
     bad-share-requires
-    high-producer-requires
+    high-stated-requires
+    high-powers-requires
     add-p
     loop-less
     loop-again

@@ -1,6 +1,7 @@
 use mathlib.Core.Path.{sym, _∙_}
 use Rattle.rules.specs.Refusals.{sheetTests}
 use Rattle.laws.proofs.Refusals.{first-stands, first-next, form-numbered}
+use Rattle.refusals_sheet.proofs.Numbers.{form-whole}
 use borrow.Author.Needs.{needs}
 use Rattle.refusals_sheet.proofs.sheet_refusal.Statement.{statement}
 use Rattle.refusals_sheet.proofs.sheet_refusal.Tie as tie
@@ -18,7 +19,9 @@ layout-requires : tie.Need-layout-requires
 layout-requires c κs = search needs
 
 figure-refusal-requires : tie.Need-figure-refusal-requires
-figure-refusal-requires c κs = search needs
+figure-refusal-requires c κs =
+    let form = sym (c .before .before .form-refusal .ensures) ∙ c .before .if1 .left in
+    rw (c .layout .ensures) (form-whole _ form)
 
 returns-2 : tie.Need-returns-2
 unfolding sheetTests

@@ -1,3 +1,4 @@
+use Rattle.laws.proofs.Arrays.{agrees-listed}
 use borrow.Author.Needs.{needs}
 use native.Mathlib.Omega.{arith}
 use mathlib.Core.Path.{_≡_}
@@ -63,7 +64,7 @@ returns c =
     let a = c .before .before .before .before in
     let end : l .j ≡ a .args .layout .header .rows = omega arith in
     let all = rw end at (l .inv .0) in
-    (all .agrees, counted-fits all (omega arith))
+    (agrees-listed (all .agrees), counted-fits all (omega arith))
 
 pub row-volumes-spec : {M : Type 1} → statement M
 row-volumes-spec =

@@ -1,7 +1,7 @@
 use mathlib.Core.Path.{refl, sym, _∙_}
 use native.Mathlib.Omega.{arith}
 use Rattle.laws.proofs.Refusals.{stretch-refused, stretch-none}
-use Rattle.refusals_form.proofs.Handed.{no-stretch, stretch-fits, stretch-list, stretch-place, stretch-length}
+use Rattle.refusals_form.proofs.Handed.{no-stretch, stretch-same, stretch-length}
 use borrow.Author.Needs.{needs}
 use Rattle.refusals_form.proofs.stretch.producer_hours.Statement.{statement}
 use Rattle.refusals_form.proofs.stretch.producer_hours.Tie as tie
@@ -32,43 +32,21 @@ returns-2 c =
     (rw (c .before .before .before .layout .ensures) at (c .before .if2 .taken))) in
     (p .0, ((refl, p .1), p .2))
 
-hours-at-requires : tie.Need-hours-at-requires
-hours-at-requires c κs = search needs
-
-cast-end : tie.Need-cast-end
-cast-end c = search needs
-
-mul-end : tie.Need-mul-end
-mul-end c = search needs
-
-add-end : tie.Need-add-end
-add-end c = search needs
-
-sub-result : tie.Need-sub-result
-sub-result c = search needs
-
-part-result-start : tie.Need-part-result-start
-part-result-start c = search needs
-
-part-result-end : tie.Need-part-result-end
-part-result-end c =
-    omega (
-      arith,
-      stretch-fits (c .before .before .before .before .before .before .before .before .args .s .now) (c .before .before .before .before .before .before .before .before .args .p) (c .before .hours-at .result) (c .before .before .before .before .layout .result) (c .before .before .before .before .layout .ensures)
-          (c .before .hours-at .ensures .0) (sym (c .before .before .before .before .before .before .form-refusal .ensures) ∙ c .before .before .before .before .before .if1 .left) (c .before .before .if2 .left),
-    )
+stretch-requires : tie.Need-stretch-requires
+stretch-requires c κs = search needs
 
 returns-3 : tie.Need-returns-3
 returns-3 c =
-    let a = c .before .before .before .before .before .before .before .before .before .args in
-    let h = c .before .before .before .before .before .layout in
-    let at = c .before .before .hours-at in
-    let f = sym (c .before .before .before .before .before .before .before .form-refusal .ensures) ∙ c .before .before .before .before .before .before .if1 .left in
-    let l = c .before .before .before .if2 .left in (
-      stretch-list (a .s .now) (a .p) (at .result) (h .result) (h .ensures) (at .ensures .0) f l,
+    let a = c .before .before .before .before .before .before .before .args in
+    let h = c .before .before .before .layout in
+    let f = sym (c .before .before .before .before .before .form-refusal .ensures) ∙ c .before .before .before .before .if1 .left in
+    let l = c .before .if2 .left in
+    let same = stretch-same (a .s .now) (a .p) (h .result) (h .ensures) f l in
+    let r = c .stretch .ensures in (
+      rw same at (r .0),
       (
-        (refl, stretch-place (a .s .now) (a .p) (at .result) (h .result) (h .ensures) (at .ensures .0) f l _),
-        stretch-length (a .s .now) (a .p) (at .result) (h .result) (h .ensures) (at .ensures .0) f l,
+        (r .1 .0, rw same at (r .1 .1)),
+        rw (r .0, same) (stretch-length (a .s .now) (a .p) (h .result) (h .ensures) f l),
       ),
     )
 
@@ -82,11 +60,5 @@ producer-hours-spec =
     layout-requires
     slice-aggregate-result-2
     returns-2
-    hours-at-requires
-    cast-end
-    mul-end
-    add-end
-    sub-result
-    part-result-start
-    part-result-end
+    stretch-requires
     returns-3)

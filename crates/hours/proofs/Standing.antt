@@ -1,0 +1,33 @@
+-- Powers of a series that stand in a part. Assumes nothing.
+use mathlib.Core.Path.{_≡_, refl, sym}
+use mathlib.Core.Bool.{Bool, true, false, _&&_, true≢false}
+use mathlib.Core.List.{List}
+use Prim.Native.Nat.{ℕ, _+_, _*_, _≤_, _<_}
+use native.Mathlib.Nat.{mul-le-mul, mul-le-mul-left}
+use native.Mathlib.Omega.{arith}
+use borrow.Author.Tests.{leb-true}
+use lib.ListN.{length}
+use Rattle.rules.specs.declared.Series.{Series}
+use Rattle.hours.specs.Series.{stands, Stands}
+
+module _ (part : List ℕ) (x : Series) where
+  pub told : (n : ℕ) → stands (length part) x n ≡ true → Stands part x n
+  unfolding stands
+  told n e = leb-true _ _ e
+
+  -- Fewer stand too.
+  pub fewer : {m n : ℕ} → m ≤ n → Stands part x n → Stands part x m
+  fewer l h = omega (arith, h, mul-le-mul-left (x .step) l)
+
+  -- The last of them ends within.
+  pub ends : (i : ℕ) → Stands part x (i + 1) → x .start + x .step * i + 4 ≤ length part
+  ends i h = omega (arith, h)
+
+-- The places of a series are not far.
+pub near : (step i : ℕ) → step ≤ 65535 → i < 65536 → step * i ≤ 4294836225
+near step i s l = mul-le-mul {n₂ = 65535} {m₂ = 65535} s (omega arith)
+
+-- Two tests hold, so the one and the other.
+pub both : (a b : Bool) → (a && b) ≡ true → (a ≡ true) × (b ≡ true)
+both true b e = (refl, e)
+both false b e = absurd (true≢false (sym e))

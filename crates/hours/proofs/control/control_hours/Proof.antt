@@ -1,0 +1,39 @@
+use mathlib.Core.Path.{_≡_, refl, sym, _∙_}
+use mathlib.Core.Bool.{true, _&&_}
+use Prim.Native.Nat.{_*_, zero-le}
+use lib.Dec.{leb}
+use lib.ListN.{length}
+use borrow.Author.Tests.{leb-true}
+use Rattle.hours.specs.Series.{stands}
+use Rattle.hours.specs.Control.{controlIn}
+use Rattle.hours.proofs.Standing.{told, both}
+use borrow.Author.Needs.{needs}
+use Rattle.hours.proofs.control.control_hours.Statement.{statement}
+use Rattle.hours.proofs.control.control_hours.Tie as tie
+
+mul-stands : tie.Need-mul-stands
+mul-stands c = search needs
+
+stands-requires : tie.Need-stands-requires
+stands-requires c κs = search needs
+
+stand : (c : tie.Then1) → (leb (c .before .before .before .args .days) 31 && stands (length (c .before .before .before .args .part .now)) (c .before .before .before .args .x) (24 * c .before .before .before .args .days)) ≡ true
+stand c = rw (sym (c .before .stands .ensures)) (c .if1 .taken)
+
+by-day-requires : tie.Need-by-day-requires
+by-day-requires c κs =
+    let a = c .before .before .before .args in
+    let two = both _ _ (stand c) in
+    (told (a .part .now) (a .x) _ (two .1), leb-true _ _ (two .0))
+
+returns : tie.Need-returns
+unfolding controlIn
+returns c = (rw (stand (c .before)) (c .by-day .ensures .0), c .by-day .ensures .1)
+
+returns-2 : tie.Need-returns-2
+unfolding controlIn
+returns-2 c = (rw (sym (c .before .stands .ensures), c .if1 .left), zero-le)
+
+pub control-hours-spec : {M : Type 1} → statement M
+control-hours-spec =
+    tie.close (tie.spec mul-stands stands-requires by-day-requires returns returns-2)

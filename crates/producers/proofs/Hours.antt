@@ -1,0 +1,99 @@
+-- k1 and k4 of a producer, from the sums over the stretch of its hours. Assumes nothing.
+use mathlib.Core.Path.{_≡_, refl, sym, ap, ap₂, _∙_}
+use mathlib.Core.Bool.{Bool, true, false, _&&_}
+use mathlib.Core.List.{List}
+use Prim.Native.Nat.{ℕ, _+_, _-_, _*_, _≤_, _<_, min}
+use native.Mathlib.Omega.{arith}
+use borrow.Author.Tests.{le-leb}
+use lib.ListN.{length, take, drop, getD, length-take, length-drop}
+use lib.Dec.{leb}
+use Rattle.rules.specs.declared.Layout.{Layout}
+use Rattle.rules.specs.declared.Ratio.{Ratio}
+use Rattle.rules.specs.declared.Series.{Series}
+use Rattle.rules.specs.declared.Stated.{Stated}
+use Rattle.rules.specs.Range.{sum, when}
+use Rattle.rules.specs.Month.{hours}
+use Rattle.rules.specs.Sheet.{hoursWidth, hoursAt, producerAt, statedOf, power, workingSeries, possibleSeries, outsideSeries, producerUnder}
+use Rattle.rules.specs.Outcome.{within}
+use Rattle.rules.specs.ControlHours.{controlDay, controlSum, controlCount, controlAverage, average}
+use Rattle.rules.specs.Bands.{bandOf, thousandths}
+use Rattle.rules.specs.Coefficients.{ratio, overuse, penalty, lessPenalty, asked, met, exactK1, exactK4}
+use Rattle.laws.specs.Lists.{listed}
+use Rattle.laws.proofs.Range.{sum-same}
+use Rattle.laws.proofs.Arrays.{getD-listed}
+use Rattle.laws.proofs.Fields.{read-part}
+use Rattle.laws.proofs.ControlHours.{evening, control-by-day, count-by-day}
+use Rattle.units.specs.Sums.{tenths}
+use Rattle.sheet.specs.Producers.{stretchIn}
+use Rattle.sheet.proofs.Whole.{stretch-whole}
+use Rattle.hours.specs.declared.k4.K4.{K4}
+use Rattle.hours.specs.declared.control.Control.{Control}
+use Rattle.hours.specs.Series.{stands, powerIn}
+use Rattle.hours.specs.Sums.{k4Of, k4In}
+use Rattle.hours.specs.Control.{controlOf, controlIn}
+use Rattle.producers.specs.Terms.{overOf}
+
+module _ (l : Layout) (s : List ℕ) (p : ℕ) (fits : hoursAt l p + hoursWidth (l .header) ≤ length s) {part : List ℕ} (lent : part ≡ within (stretchIn l (length s) p) s) where
+  there : part ≡ take (hoursWidth (l .header)) (drop (hoursAt l p) s)
+  unfolding within
+  there = lent ∙ rw (stretch-whole l s p fits)
+
+  wide : length part ≡ 288 * l .header .days
+  wide = rw there (simp (length-take, length-drop) (omega arith))
+
+  -- A series of the producer's powers stands in the stretch, and is read there.
+  module _ (x : Series) (by : x .step ≡ 12) (from : x .start ≤ 8) where
+    standing : stands (length part) x (24 * l .header .days) ≡ true
+    unfolding stands
+    standing = let within-part : x .start + x .step * (24 * l .header .days) + 4 ≤ length part + x .step = rw (by, wide) (omega arith) in le-leb _ _ within-part
+
+    read : (i : ℕ) → i < 24 * l .header .days → powerIn part x i ≡ power s (hoursAt l p) x i
+    unfolding power
+    read i b =
+        let inside : x .start + x .step * i + 4 ≤ hoursWidth (l .header) = rw by (omega arith) in
+        rw there (read-part 4 (hoursWidth (l .header)) (hoursAt l p) (x .start + x .step * i) s inside)
+
+  -- k4.
+  module _ (S : ℕ) where
+    asked-read : (i : ℕ) → i < hours (l .header) → min S (powerIn part (possibleSeries l) i) ≡ asked (producerUnder l s p) S i
+    unfolding asked
+    asked-read i b = ap (min S) (read (possibleSeries l) refl (omega arith) i b)
+
+    met-read : (i : ℕ) → i < hours (l .header)
+        → min (min S (powerIn part (possibleSeries l) i)) (powerIn part (workingSeries l) i) ≡ met (producerUnder l s p) S i
+    unfolding met
+    met-read i b = ap₂ (λ (m w : ℕ). min m w) (asked-read i b) (read (workingSeries l) refl (omega arith) i b)
+
+    pub k4-known : {k : K4} {r : Ratio} → k ≡ k4In part (workingSeries l) (possibleSeries l) (l .header .days) S → r ≡ ratio (k .met .0) (k .asked .0)
+        → r ≡ exactK4 (l .header) (producerUnder l s p) S
+    unfolding k4In exactK4
+    k4-known sums is =
+        rw (is, sums, standing (workingSeries l) refl (omega arith), standing (possibleSeries l) refl (omega arith), sum-same _ _ {n = hours (l .header)} refl met-read, sum-same _ _ {n = hours (l .header)} refl asked-read)
+
+  -- k1.
+  module _ (few : l .header .days ≤ 31) {on : List Bool} (days : on ≡ listed (controlDay (l .header)) 31) where
+    marked : (d : ℕ) → d < l .header .days → getD on d false ≡ controlDay (l .header) d
+    marked d b = rw days (getD-listed false (controlDay (l .header)) 31 d (omega arith))
+
+    evening-read : (d : ℕ) → d < l .header .days → evening (powerIn part (outsideSeries l)) d ≡ evening (producerUnder l s p .outsideUse) d
+    evening-read d b = sum-same _ _ {n = 6} refl (λ t q. read (outsideSeries l) refl (omega arith) (24 * d + (17 + t)) (omega arith))
+
+    sum-known : sum (λ d. when (getD on d false) (evening (powerIn part (outsideSeries l)) d)) (l .header .days) ≡ controlSum (l .header) (producerUnder l s p .outsideUse)
+    unfolding controlSum
+    sum-known =
+        sum-same _ _ {n = l .header .days} refl (λ d b. ap₂ when (marked d b) (evening-read d b))
+        ∙ sym (control-by-day (l .header) (producerUnder l s p .outsideUse) (l .header .days))
+
+    count-known : sum (λ d. when (getD on d false) 6) (l .header .days) ≡ controlCount (l .header)
+    count-known = sum-same _ _ {n = l .header .days} refl (λ d b. ap (λ (t : Bool). when t 6) (marked d b)) ∙ sym (count-by-day (l .header))
+
+    control-known : {c : Control} → c ≡ controlIn part (outsideSeries l) (l .header .days) on
+        → c ≡ record { counted = tenths (controlSum (l .header) (producerUnder l s p .outsideUse)); count = controlCount (l .header) }
+    unfolding controlIn
+    control-known is = rw (is, le-leb (l .header .days) 31 few, standing (outsideSeries l) refl (omega arith), sum-known, count-known)
+
+    pub k1-known : {c : Control} {r : Ratio} {x : Stated} (T : ℕ) → c ≡ controlIn part (outsideSeries l) (l .header .days) on → x ≡ statedOf s (producerAt l p)
+        → r ≡ lessPenalty T (bandOf (thousandths (overOf c (x .deductible)) (x .deductible)) * overOf c (x .deductible))
+        → r ≡ exactK1 (l .header) (producerUnder l s p) T
+    unfolding exactK1 penalty overuse controlAverage
+    k1-known T counted stated is = rw (is, control-known counted, stated)

@@ -1,0 +1,49 @@
+use mathlib.Core.Path.{_≡_, sym, _∙_}
+use lib.ListN.{length}
+use Rattle.rules.specs.Refusals.{headerTests, roomTests, firstOf}
+use Rattle.refusals_sheet.proofs.Numbers.{whole, form-stands, room-stands, figures-next}
+use borrow.Author.Needs.{needs}
+use Rattle.refusals_sheet.proofs.month_refusal.Statement.{statement}
+use Rattle.refusals_sheet.proofs.month_refusal.Tie as tie
+
+-- None of 4 to 6 applies; nor does 7.
+form-none : (c : tie.Else1) → firstOf (headerTests (c .before .before .before .args .layout) (length (c .before .before .before .args .s .now))) ≡ 0
+form-none c = sym (c .before .header-refusal .ensures) ∙ c .if1 .left
+
+room-none : (c : tie.Else2) → firstOf (roomTests (c .before .before .before .before .before .args .layout .header) (c .before .before .before .before .before .args .room)) ≡ 0
+room-none c = sym (c .before .room-refusal .ensures) ∙ c .if2 .left
+
+header-refusal-requires : tie.Need-header-refusal-requires
+header-refusal-requires c κs = search needs
+
+returns : tie.Need-returns
+returns c =
+    let e = c .before .header-refusal .ensures in
+    e ∙ form-stands _ _ _ (λ z. c .if1 .taken (e ∙ z))
+
+room-refusal-requires : tie.Need-room-refusal-requires
+room-refusal-requires c κs = search needs
+
+returns-2 : tie.Need-returns-2
+returns-2 c =
+    let e = c .before .room-refusal .ensures in
+    e ∙ room-stands _ _ _ (form-none (c .before .before)) (λ z. c .if2 .taken (e ∙ z))
+
+figure-refusal-requires : tie.Need-figure-refusal-requires
+figure-refusal-requires c κs = whole _ _ (form-none (c .before .before))
+
+returns-3 : tie.Need-returns-3
+returns-3 c =
+    let r = c .before in
+    c .figure-refusal .ensures ∙ figures-next _ _ _ (form-none (r .before .before)) (room-none r)
+
+pub month-refusal-spec : {M : Type 1} → statement M
+month-refusal-spec =
+    tie.close
+    (tie.spec
+    header-refusal-requires
+    returns
+    room-refusal-requires
+    returns-2
+    figure-refusal-requires
+    returns-3)
