@@ -1,9 +1,10 @@
 // Where the records of a sheet stand, and how long the sheet and its result are. No other crate knows how wide a record of the sheet is.
 ghost use mathlib.Core.Path.{_≡_};
 ghost use Prim.Native.Nat.{_≤_};
-ghost use Rattle.rules.specs.Sheet.{hoursWidth, producerAt, hoursAt, workingSeries, possibleSeries, outsideSeries, rowAt, consumerAt, sheetLength};
+ghost use Rattle.rules.specs.Sheet.{hoursWidth, producerAt, hoursAt, hourSeries, rowAt, consumerAt, sheetLength};
 ghost use Rattle.rules.specs.Result.{resultLength};
 use rules::Header;
+use rules::HourSeries;
 use rules::Layout;
 use rules::Series;
 
@@ -28,33 +29,14 @@ pub fn hours_width(h: Header) -> usize
     288 * (h.days as usize)
 }
 
-// Where working powers stand in a producer's hours.
-pub fn working_series(layout: Layout) -> Series
-    ensures { λ r. ⌜ r ≡ workingSeries layout ⌝ }
+// Where working, possible and outside-use powers stand in a producer's hours.
+pub fn hour_series(layout: Layout) -> HourSeries
+    ensures { λ r. ⌜ r ≡ hourSeries layout ⌝ }
 {
-    Series {
-        start: 0,
-        step: 12,
-    }
-}
-
-// Where possible powers stand in a producer's hours.
-pub fn possible_series(layout: Layout) -> Series
-    ensures { λ r. ⌜ r ≡ possibleSeries layout ⌝ }
-{
-    Series {
-        start: 4,
-        step: 12,
-    }
-}
-
-// Where outside-use powers stand in a producer's hours.
-pub fn outside_series(layout: Layout) -> Series
-    ensures { λ r. ⌜ r ≡ outsideSeries layout ⌝ }
-{
-    Series {
-        start: 8,
-        step: 12,
+    HourSeries {
+        working: Series { start: 0, step: 12 },
+        possible: Series { start: 4, step: 12 },
+        outside: Series { start: 8, step: 12 },
     }
 }
 

@@ -13,7 +13,7 @@ use Rattle.rules.specs.declared.Series.{Series}
 use Rattle.rules.specs.declared.Stated.{Stated}
 use Rattle.rules.specs.Range.{sum, when}
 use Rattle.rules.specs.Month.{hours}
-use Rattle.rules.specs.Sheet.{hoursWidth, hoursAt, producerAt, statedOf, power, workingSeries, possibleSeries, outsideSeries, producerUnder}
+use Rattle.rules.specs.Sheet.{hoursWidth, hoursAt, producerAt, statedOf, power, hourSeries, producerUnder}
 use Rattle.rules.specs.Outcome.{within}
 use Rattle.rules.specs.ControlHours.{controlDay, controlSum, controlCount, controlAverage, average}
 use Rattle.rules.specs.Bands.{bandOf, thousandths}
@@ -55,30 +55,30 @@ module _ (l : Layout) (s : List ℕ) (p : ℕ) (fits : hoursAt l p + hoursWidth 
 
   -- k4.
   module _ (S : ℕ) where
-    asked-read : (i : ℕ) → i < hours (l .header) → min S (powerIn part (possibleSeries l) i) ≡ asked (producerUnder l s p) S i
+    asked-read : (i : ℕ) → i < hours (l .header) → min S (powerIn part (hourSeries l .possible) i) ≡ asked (producerUnder l s p) S i
     unfolding asked
-    asked-read i b = ap (min S) (read (possibleSeries l) refl (omega arith) i b)
+    asked-read i b = ap (min S) (read (hourSeries l .possible) refl (omega arith) i b)
 
     met-read : (i : ℕ) → i < hours (l .header)
-        → min (min S (powerIn part (possibleSeries l) i)) (powerIn part (workingSeries l) i) ≡ met (producerUnder l s p) S i
+        → min (min S (powerIn part (hourSeries l .possible) i)) (powerIn part (hourSeries l .working) i) ≡ met (producerUnder l s p) S i
     unfolding met
-    met-read i b = ap₂ (λ (m w : ℕ). min m w) (asked-read i b) (read (workingSeries l) refl (omega arith) i b)
+    met-read i b = ap₂ (λ (m w : ℕ). min m w) (asked-read i b) (read (hourSeries l .working) refl (omega arith) i b)
 
-    pub k4-known : {k : K4} {r : Ratio} → k ≡ k4In part (workingSeries l) (possibleSeries l) (l .header .days) S → r ≡ ratio (k .met .0) (k .asked .0)
+    pub k4-known : {k : K4} {r : Ratio} → k ≡ k4In part (hourSeries l .working) (hourSeries l .possible) (l .header .days) S → r ≡ ratio (k .met .0) (k .asked .0)
         → r ≡ exactK4 (l .header) (producerUnder l s p) S
     unfolding k4In exactK4
     k4-known sums is =
-        rw (is, sums, standing (workingSeries l) refl (omega arith), standing (possibleSeries l) refl (omega arith), sum-same _ _ {n = hours (l .header)} refl met-read, sum-same _ _ {n = hours (l .header)} refl asked-read)
+        rw (is, sums, standing (hourSeries l .working) refl (omega arith), standing (hourSeries l .possible) refl (omega arith), sum-same _ _ {n = hours (l .header)} refl met-read, sum-same _ _ {n = hours (l .header)} refl asked-read)
 
   -- k1.
   module _ (few : l .header .days ≤ 31) {on : List Bool} (days : on ≡ listed (controlDay (l .header)) 31) where
     marked : (d : ℕ) → d < l .header .days → getD on d false ≡ controlDay (l .header) d
     marked d b = rw days (getD-listed false (controlDay (l .header)) 31 d (omega arith))
 
-    evening-read : (d : ℕ) → d < l .header .days → evening (powerIn part (outsideSeries l)) d ≡ evening (producerUnder l s p .outsideUse) d
-    evening-read d b = sum-same _ _ {n = 6} refl (λ t q. read (outsideSeries l) refl (omega arith) (24 * d + (17 + t)) (omega arith))
+    evening-read : (d : ℕ) → d < l .header .days → evening (powerIn part (hourSeries l .outside)) d ≡ evening (producerUnder l s p .outsideUse) d
+    evening-read d b = sum-same _ _ {n = 6} refl (λ t q. read (hourSeries l .outside) refl (omega arith) (24 * d + (17 + t)) (omega arith))
 
-    sum-known : sum (λ d. when (getD on d false) (evening (powerIn part (outsideSeries l)) d)) (l .header .days) ≡ controlSum (l .header) (producerUnder l s p .outsideUse)
+    sum-known : sum (λ d. when (getD on d false) (evening (powerIn part (hourSeries l .outside)) d)) (l .header .days) ≡ controlSum (l .header) (producerUnder l s p .outsideUse)
     unfolding controlSum
     sum-known =
         sum-same _ _ {n = l .header .days} refl (λ d b. ap₂ when (marked d b) (evening-read d b))
@@ -87,12 +87,12 @@ module _ (l : Layout) (s : List ℕ) (p : ℕ) (fits : hoursAt l p + hoursWidth 
     count-known : sum (λ d. when (getD on d false) 6) (l .header .days) ≡ controlCount (l .header)
     count-known = sum-same _ _ {n = l .header .days} refl (λ d b. ap (λ (t : Bool). when t 6) (marked d b)) ∙ sym (count-by-day (l .header))
 
-    control-known : {c : Control} → c ≡ controlIn part (outsideSeries l) (l .header .days) on
+    control-known : {c : Control} → c ≡ controlIn part (hourSeries l .outside) (l .header .days) on
         → c ≡ record { counted = tenths (controlSum (l .header) (producerUnder l s p .outsideUse)); count = controlCount (l .header) }
     unfolding controlIn
-    control-known is = rw (is, le-leb (l .header .days) 31 few, standing (outsideSeries l) refl (omega arith), sum-known, count-known)
+    control-known is = rw (is, le-leb (l .header .days) 31 few, standing (hourSeries l .outside) refl (omega arith), sum-known, count-known)
 
-    pub k1-known : {c : Control} {r : Ratio} {x : Stated} (T : ℕ) → c ≡ controlIn part (outsideSeries l) (l .header .days) on → x ≡ statedOf s (producerAt l p)
+    pub k1-known : {c : Control} {r : Ratio} {x : Stated} (T : ℕ) → c ≡ controlIn part (hourSeries l .outside) (l .header .days) on → x ≡ statedOf s (producerAt l p)
         → r ≡ lessPenalty T (bandOf (thousandths (overOf c (x .deductible)) (x .deductible)) * overOf c (x .deductible))
         → r ≡ exactK1 (l .header) (producerUnder l s p) T
     unfolding exactK1 penalty overuse controlAverage

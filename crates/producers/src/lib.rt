@@ -19,10 +19,8 @@ use hours::Control;
 use hours::K4;
 use hours::control_hours;
 use hours::k4_sums;
-use places::outside_series;
-use places::possible_series;
+use places::hour_series;
 use places::sheet_length;
-use places::working_series;
 use rules::Header;
 use rules::Layout;
 use rules::Ratio;
@@ -148,9 +146,10 @@ fn terms_of(s: &[u8], layout: Layout, p: u8, v: Volumes, days: ControlDays) -> T
     let summed = summed_of(v, x.deductible);
     let excess = excess_of(summed, x.needs, x.attested);
     let hours = stretch(s, layout, p);
+    let of = hour_series(layout);
     let month = layout.header.days;
-    let sums = k4_sums(hours, working_series(layout), possible_series(layout), month, summed);
-    let control = control_hours(hours, outside_series(layout), month, days);
+    let sums = k4_sums(hours, of.working, of.possible, month, summed);
+    let control = control_hours(hours, of.outside, month, days);
     let k1 = exact_k1(control, x.deductible, v.support);
     let ks = ks_of(layout.header, x, k1, exact_k4(sums));
     Terms { excess, ks }

@@ -5,9 +5,10 @@ use Rattle.rules.specs.Month.{Header, Producer, Row, Consumer, Month}
 use Rattle.rules.specs.Fields.{bigEndian}
 -- The version and the header: the struct Layout of src/lib.rt. Widths and places go by it, and nothing else does.
 pub use Rattle.rules.specs.declared.Layout.{Layout}
--- A producer's stated figures, and a series of powers: the structs Stated and Series of src/lib.rt.
+-- A producer's stated figures, a series of powers, and the series of its hours: the structs Stated, Series and HourSeries of src/lib.rt.
 pub use Rattle.rules.specs.declared.Stated.{Stated}
 pub use Rattle.rules.specs.declared.Series.{Series}
+pub use Rattle.rules.specs.declared.HourSeries.{HourSeries}
 
 -- The header's width.
 abbrev pub headerWidth : ℕ
@@ -99,17 +100,9 @@ statedOf s at =
 abbrev pub series : ℕ → ℕ → Series
 series start step = record { start = start; step = step }
 
--- A producer's working powers in the stretch of its hours: an hour's three powers follow each other, hour 0 of day 1 first.
-abbrev pub workingSeries : Layout → Series
-workingSeries l = series 0 12
-
--- Its possible powers.
-abbrev pub possibleSeries : Layout → Series
-possibleSeries l = series 4 12
-
--- Its outside-use powers.
-abbrev pub outsideSeries : Layout → Series
-outsideSeries l = series 8 12
+-- The series of a producer's powers in the stretch of its hours: an hour's three powers follow each other, hour 0 of day 1 first.
+abbrev pub hourSeries : Layout → HourSeries
+hourSeries l = record { working = series 0 12; possible = series 4 12; outside = series 8 12 }
 
 -- The power that a series has in an hour, in the stretch that begins at a place.
 unfoldable pub power : List ℕ → ℕ → Series → ℕ → ℕ
@@ -140,9 +133,9 @@ producerOf x working possible outside =
 abbrev pub producerUnder : Layout → List ℕ → ℕ → Producer
 producerUnder l s p =
     producerOf (statedOf s (producerAt l p))
-    (power s (hoursAt l p) (workingSeries l))
-    (power s (hoursAt l p) (possibleSeries l))
-    (power s (hoursAt l p) (outsideSeries l))
+    (power s (hoursAt l p) (hourSeries l .working))
+    (power s (hoursAt l p) (hourSeries l .possible))
+    (power s (hoursAt l p) (hourSeries l .outside))
 
 -- The row whose figures begin at a place.
 abbrev pub rowOf : List ℕ → ℕ → Row

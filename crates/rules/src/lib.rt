@@ -42,6 +42,13 @@ pub struct Series {
     pub step: u16,
 }
 
+// The series of a producer's hours: working, possible and outside-use power.
+pub struct HourSeries {
+    pub working: Series,
+    pub possible: Series,
+    pub outside: Series,
+}
+
 // A contract row: the producer, the consumer (255 for the single buyer), the volume in tenths of a megawatt, the price in tiyn per
 // megawatt and month.
 pub struct Row {

@@ -26,8 +26,7 @@ mul-with-six c = omega arith
 
 with-six-requires : tie.Need-with-six-requires Inv-loop μ-loop
 with-six-requires c κs =
-    let s = c .before .before .before in
-    (
+    let s = c .before .before .before in (
       (fewer (s .args .part .now) (s .args .working) (omega arith) (s .pre .0), fewer (s .args .part .now) (s .args .possible) (omega arith) (s .pre .1), omega arith),
       c .before .loop .inv .0,
     )
