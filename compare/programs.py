@@ -10,7 +10,7 @@ from records import result_figures
 
 ROOT = Path(__file__).resolve().parent.parent
 OUT = ROOT / "target" / "compare"
-ARCHIVE = ROOT / "target" / "staticlib" / "libsettlement.a"
+ARCHIVE = ROOT / "target" / "staticlib" / "libcapacity.a"
 RIVAL = ROOT / "target" / "rival" / "rival"
 MODULE = OUT / "module"
 
@@ -66,7 +66,7 @@ def build_rival(sources=ROOT / "rival"):
 
 def build_module(archive):
     if not Path(archive).is_file():
-        raise Trouble(f"there is no archive {archive}; make it with: rt staticlib settlement")
+        raise Trouble(f"there is no archive {archive}; make it with: rt staticlib capacity")
     make_folder(OUT)
     new = MODULE.with_suffix(".new")
     status, printed = run_program(["cc", "-std=c99", "-O2", "-Wall", "-Wextra", "-Werror", "-I", ROOT / "include",

@@ -2,7 +2,7 @@
 use std::env;
 use std::path::{Path, PathBuf};
 
-const NAME: &str = "libsettlement.a";
+const NAME: &str = "libcapacity.a";
 
 fn folder() -> PathBuf {
     match env::var_os("CAPACITY_ARCHIVE_DIR") {
@@ -25,11 +25,11 @@ fn main() {
         println!("cargo::error={NAME} holds code for x86-64, and this build is for {processor}");
     } else if !archive.is_file() {
         println!(
-            "cargo::error=there is no {}; make it with 'rt staticlib settlement', or name its folder in CAPACITY_ARCHIVE_DIR",
+            "cargo::error=there is no {}; make it with 'rt staticlib capacity', or name its folder in CAPACITY_ARCHIVE_DIR",
             archive.display()
         );
     } else {
         println!("cargo::rustc-link-search=native={}", folder.display());
-        println!("cargo::rustc-link-lib=static=settlement");
+        println!("cargo::rustc-link-lib=static=capacity");
     }
 }

@@ -259,12 +259,12 @@ def test_version(folder):
     found = lines()
     check(found == {"revision": "unknown: this folder is no checkout that git can read", "kit": "kit 1",
                     "sources": sources,
-                    "archive": "none; 'rt staticlib settlement' makes target/staticlib/libsettlement.a"},
+                    "archive": "none; 'rt staticlib capacity' makes target/staticlib/libcapacity.a"},
           "settle --version: no checkout", str(found))
     git = ["git", "-C", house.root, "-c", "user.name=x", "-c", "user.email=x"]
     for words in (["init", "-q"], ["add", "."], ["commit", "-q", "-m", "x"]):
         run(*git, *words)
-    archive = house.root / "target/staticlib/libsettlement.a"
+    archive = house.root / "target/staticlib/libcapacity.a"
     archive.parent.mkdir(parents=True)
     archive.write_bytes(b"archive")
     (house.root / ".gitignore").write_text("target/\n.gitignore\n")

@@ -3,7 +3,7 @@ ghost use mathlib.Core.Path.{_≡_};
 ghost use lib.ListN.{length};
 ghost use Prim.Native.Nat.{_+_};
 ghost use Rattle.rules.specs.Outcome.{outcome, bufferAfter, hoursStretch, within};
-ghost use Rattle.settlement.specs.Said.{said, inC};
+ghost use Rattle.settlement.specs.Said.{said};
 use places::result_length;
 use refusals_form::front_refusal;
 use refusals_form::producer_hours;
@@ -40,17 +40,4 @@ pub fn hours_of(sheet: &[u8], p: u8) -> &[u8]
     ensures bytes { λ r. ⌜ length (now r) ≡ hoursStretch (now (sheet .entry)) p .bytes ⌝ }
 {
     producer_hours(sheet, p)
-}
-
-// The settlement for C: the count of bytes written, or minus the refusal's number (include/capacity.h).
-#[no_mangle]
-pub extern "C" fn capacity_settle(sheet: &[u8], result: &mut [u8]) -> i64
-    ensures { λ r. ⌜ r ≡ inC (outcome (now (sheet .entry)) (length (now (result .entry)))) ⌝ }
-    ensures buffer { λ r. ⌜ now (result .exit) ≡ bufferAfter (now (sheet .entry)) (now (result .entry)) ⌝ }
-{
-    let answer = settle(sheet, result);
-    match answer {
-        Answer::Refused(number) => -(number as i64),
-        Answer::Written(count) => count as i64,
-    }
 }

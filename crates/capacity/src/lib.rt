@@ -1,0 +1,29 @@
+// The entries for C, one below the other. All answers are i64: a count, or minus the refusal's number (include/capacity.h).
+ghost use mathlib.Core.Path.{_≡_};
+ghost use lib.ListN.{length};
+ghost use Prim.Native.Nat.{_<_};
+ghost use Rattle.rules.specs.Outcome.{outcome, bufferAfter};
+ghost use Rattle.settlement.specs.Said.{said};
+ghost use Rattle.capacity.specs.InC.{inC, counted, countEnd};
+use settlement::Answer;
+use settlement::settle;
+
+// An answer as one number for C. Every entry that gets an Answer hands it over here.
+fn in_c(answer: Answer) -> i64
+    requires { ⌜ counted (said answer) < countEnd ⌝ }
+    ensures { λ r. ⌜ r ≡ inC (said answer) ⌝ }
+{
+    match answer {
+        Answer::Refused(number) => -(number as i64),
+        Answer::Written(count) => count as i64,
+    }
+}
+
+// The settlement: the count of bytes written, or minus the refusal's number.
+#[no_mangle]
+pub extern "C" fn capacity_settle(sheet: &[u8], result: &mut [u8]) -> i64
+    ensures { λ r. ⌜ r ≡ inC (outcome (now (sheet .entry)) (length (now (result .entry)))) ⌝ }
+    ensures buffer { λ r. ⌜ now (result .exit) ≡ bufferAfter (now (sheet .entry)) (now (result .entry)) ⌝ }
+{
+    in_c(settle(sheet, result))
+}
