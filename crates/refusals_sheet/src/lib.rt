@@ -131,9 +131,9 @@ pub fn sheet_refusal(s: &[u8]) -> u8
 pub fn month_refusal(s: &[u8], layout: Layout, room: usize) -> u8
     ensures { λ r. ⌜ r ≡ monthNumber layout (now (s .entry)) room ⌝ }
 {
-    let form = header_refusal(layout, s.len());
-    if form != 0 {
-        return form;
+    let header = header_refusal(layout, s.len());
+    if header != 0 {
+        return header;
     }
     let short = room_refusal(layout.header, room);
     if short != 0 {

@@ -23,6 +23,13 @@ use Rattle.producers.proofs.terms_of.Tie as tie
 whole : (l : Layout) (s : List ℕ) (p : ℕ) → hoursAt l p + hoursWidth (l .header) ≤ length s → statedIn l s p ≡ statedOf s (producerAt l p)
 whole l s p fits = stated-whole l s p (unfold hoursAt in omega (arith, fits))
 
+-- Where the function begins, and what is known before k4's sums.
+abbrev beginning : tie.After-hour-series → tie.Start
+beginning u = u .before .before .before .before .before .before
+
+abbrev summing : tie.After-k4-sums → tie.After-hour-series
+summing c = c .before
+
 producer-requires : tie.Need-producer-requires
 producer-requires c κs = search needs
 
@@ -45,32 +52,33 @@ control-hours-requires : tie.Need-control-hours-requires
 control-hours-requires c κs = search needs
 
 exact-k1-requires : tie.Need-exact-k1-requires
-exact-k1-requires c κs = (c .control-hours .ensures .1, c .before .before .before .before .before .before .before .before .pre .1 .0 .1 .0)
+exact-k1-requires c κs = (c .control-hours .ensures .1, beginning (summing (c .before)) .pre .1 .0 .1 .0)
 
 exact-k4-requires : tie.Need-exact-k4-requires
 exact-k4-requires c κs = search needs
 
 ks-of-requires : tie.Need-ks-of-requires
 ks-of-requires c κs =
-    (c .before .exact-k1 .ensures .1, omega (arith, ap (λ (r : Ratio). r .part) (c .exact-k4 .ensures), c .before .before .before .k4-sums .ensures .1 .1, c .before .before .before .before .before .before .before .before .before .before .pre .0 .0))
+    (c .before .exact-k1 .ensures .1, omega (arith, ap (λ (r : Ratio). r .part) (c .exact-k4 .ensures), c .before .before .before .k4-sums .ensures .1 .1, beginning (summing (c .before .before .before)) .pre .0 .0))
 
 returns : tie.Need-returns
 returns c =
-    let a = c .before .before .before .before .before .before .before .before .before .before .before in
+    let u = summing (c .before .before .before .before) in
+    let a = beginning u in
     let l = a .args .layout in
     let s = a .args .s .now in
     let p = a .args .p in
     let fits = a .pre .0 .1 in
     let m = monthUnder l s in
-    let x = c .before .before .before .before .before .before .before .before .before .producer .ensures ∙ whole l s p fits in
-    let summed = c .before .before .before .before .before .before .before .before .summed-of .ensures ∙ summed-is m p (a .args .v) _ (a .pre .1 .0 .0) (ap (λ (y : Stated). y .deductible) x) in
-    let lent = c .before .before .before .before .before .before .stretch .ensures .0 in
-    let sums = rw (c .before .before .before .before .before .hour-series .ensures, summed) at (c .before .before .before .before .k4-sums .ensures .0) in
+    let x = u .before .before .before .before .producer .ensures ∙ whole l s p fits in
+    let summed = u .before .before .before .summed-of .ensures ∙ summed-is m p (a .args .v) _ (a .pre .1 .0 .0) (ap (λ (y : Stated). y .deductible) x) in
+    let lent = u .before .stretch .ensures .0 in
+    let sums = rw (u .hour-series .ensures, summed) at (c .before .before .before .before .k4-sums .ensures .0) in
     let fourth = k4-known l s p fits lent (summedCapacity m p) sums (c .before .exact-k4 .ensures) in
-    let counted = rw (c .before .before .before .before .before .hour-series .ensures) at (c .before .before .before .control-hours .ensures .0) in
+    let counted = rw (u .hour-series .ensures) at (c .before .before .before .control-hours .ensures .0) in
     let first = k1-known l s p fits lent (a .pre .0 .0) (a .pre .1 .1) (a .args .v .support .0) counted x (c .before .before .exact-k1 .ensures .0)
     ∙ ap (λ (v : Volumes). exactK1 (l .header) (producerUnder l s p) (v .support .0)) (a .pre .1 .0 .0) in
-    let excess = left-stated l s p x summed (c .before .before .before .before .before .before .before .excess-of .ensures) in
+    let excess = left-stated l s p x summed (u .before .before .excess-of .ensures) in
     rw (ap tenths excess, c .ks-of .ensures ∙ ks-known l s p x first fourth)
 
 pub terms-of-spec : {M : Type 1} → statement M
