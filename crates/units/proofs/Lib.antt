@@ -1,3 +1,4 @@
 pub mod Rounding
 pub mod Trying
 pub mod Adding
+pub mod Pricing
