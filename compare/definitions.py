@@ -9,8 +9,8 @@ from typing import Any, Dict, List, NamedTuple, Tuple
 RULES = Path(__file__).resolve().parent.parent / "crates" / "rules"
 
 OURS = "Rattle.rules.specs."
-# Not computed: limits are propositions, and Open only gives names to sets of definitions.
-NOT_READ = ("Limits", "Open")
+# Not computed: limits are propositions, Open only gives names to sets of definitions, Said speaks of the code's answers.
+NOT_READ = ("Limits", "Open", "Said")
 
 # Binding strength and side, as the libraries declare them.
 SIGNS = {"→": (1, "right"), "≡": (4, "none"), "||": (30, "left"), "&&": (35, "left"),

@@ -3,9 +3,9 @@ ghost use mathlib.Core.Path.{_≡_};
 ghost use lib.ListN.{length};
 ghost use Prim.Native.Nat.{_<_};
 ghost use Rattle.rules.specs.Outcome.{outcome, bufferAfter};
-ghost use Rattle.settlement.specs.Said.{said};
+ghost use Rattle.rules.specs.Said.{said};
 ghost use Rattle.capacity.specs.InC.{inC, counted, countEnd};
-use settlement::Answer;
+use rules::Answer;
 use settlement::settle;
 
 // An answer as one number for C. Every entry that gets an Answer hands it over here.

@@ -9,6 +9,7 @@ use lib.ListN.{getD}
 use Rattle.rules.specs.Range.{sum, when}
 use Rattle.laws.proofs.Range.{sum-none, sum-more, sum-fold}
 use Rattle.laws.proofs.ControlHours.{evening}
+use Rattle.laws.specs.Bounds.{mostWord}
 use Rattle.units.specs.Sums.{tenths}
 use Rattle.hours.specs.declared.k4.K4.{K4}
 use Rattle.hours.specs.declared.control.Control.{Control}
@@ -23,7 +24,7 @@ k4-same working possible S e x = rw (sym e) x
 pub record SoFar (series : ℕ → ℕ) (on : List Bool) (day counted count : ℕ) : Type 0 where
   pub sum-is : counted ≡ sum (λ d. when (getD on d false) (evening series d)) day
   pub count-is : count ≡ sum (λ d. when (getD on d false) 6) day
-  pub fits : counted ≤ 4294967295 * count
+  pub fits : counted ≤ mostWord * count
   pub few : count ≤ 6 * day
 
 module _ (series : ℕ → ℕ) (on : List Bool) where
@@ -31,7 +32,7 @@ module _ (series : ℕ → ℕ) (on : List Bool) where
   none-yet = record { sum-is = sym (sum-none _); count-is = sym (sum-none _); fits = zero-le; few = zero-le }
 
   pub control-more : {day counted count v : ℕ} → SoFar series on day counted count → getD on day false ≡ true → v ≡ evening series day
-      → v ≤ 25769803770 → SoFar series on (day + 1) (counted + v) (count + 6)
+      → v ≤ 6 * mostWord → SoFar series on (day + 1) (counted + v) (count + 6)
   unfolding when
   control-more k e q l =
       record {

@@ -6,6 +6,7 @@ use Prim.Native.Nat.{ℕ, _*_, _≤_, min}
 use lib.ListN.{length}
 use Rattle.rules.specs.declared.Series.{Series}
 use Rattle.rules.specs.Range.{sum}
+use Rattle.laws.specs.Bounds.{mostWord}
 use Rattle.units.specs.Sums.{tenths}
 use Rattle.hours.specs.declared.k4.K4.{K4}
 use Rattle.hours.specs.Series.{stands, powerIn}
@@ -22,8 +23,8 @@ abbrev pub K4Before : (ℕ → ℕ) → (ℕ → ℕ) → ℕ → ℕ → K4 →
 K4Before working possible S n k =
     (k .asked .0 ≡ sum (askedOf possible S) n)
     × (k .met .0 ≡ sum (metOf working possible S) n)
-    × (k .asked .0 ≤ 4294967295 * n)
-    × (k .met .0 ≤ 4294967295 * n)
+    × (k .asked .0 ≤ mostWord * n)
+    × (k .met .0 ≤ mostWord * n)
 
 -- The sum of m over n hours, and the sum of what is met of it.
 abbrev pub k4Of : (ℕ → ℕ) → (ℕ → ℕ) → ℕ → ℕ → K4

@@ -3,6 +3,7 @@ ghost use mathlib.Core.Path.{_≡_};
 ghost use Prim.Native.Nat.{_+_, _*_, _<_, _≤_};
 ghost use lib.ListN.{length};
 ghost use Rattle.laws.proofs.ControlHours.{evening};
+ghost use Rattle.laws.specs.Bounds.{mostWord};
 ghost use Rattle.hours.specs.Series.{Stands, powerIn};
 ghost use Rattle.hours.specs.Control.{controlOf, controlIn};
 use crate::series::power;
@@ -20,7 +21,7 @@ pub struct Control {
 // The powers of a day's hours 17 to 22 in all.
 fn evening_sum(part: &[u8], x: Series, day: usize) -> Tenths
     requires { ⌜ Stands (now part) x (24 * day + 23) × (day < 256) ⌝ }
-    ensures { λ r. ⌜ (r .0 ≡ evening (powerIn (now (part .entry)) x) day) × (r .0 ≤ 25769803770) ⌝ }
+    ensures { λ r. ⌜ (r .0 ≡ evening (powerIn (now (part .entry)) x) day) × (r .0 ≤ 6 * mostWord) ⌝ }
 {
     let mut total = Tenths(0);
     let mut t: usize = 0;
@@ -34,7 +35,7 @@ fn evening_sum(part: &[u8], x: Series, day: usize) -> Tenths
 // Day by day: six hours of each control day.
 fn by_day(part: &[u8], x: Series, days: u8, control: ControlDays) -> Control
     requires { ⌜ Stands (now part) x (24 * days) × (days ≤ 31) ⌝ }
-    ensures { λ r. ⌜ (r ≡ controlOf (powerIn (now (part .entry)) x) (control .on) days) × (r .counted .0 ≤ 4294967295 * r .count) ⌝ }
+    ensures { λ r. ⌜ (r ≡ controlOf (powerIn (now (part .entry)) x) (control .on) days) × (r .counted .0 ≤ mostWord * r .count) ⌝ }
 {
     let mut counted = Tenths(0);
     let mut count: u64 = 0;
@@ -52,7 +53,7 @@ fn by_day(part: &[u8], x: Series, days: u8, control: ControlDays) -> Control
 // Of a month of so many days. Nothing is counted where the part ends before the powers do, or in a month of more than 31 days.
 pub fn control_hours(part: &[u8], x: Series, days: u8, control: ControlDays) -> Control
     ensures { λ r. ⌜ r ≡ controlIn (now (part .entry)) x days (control .on) ⌝ }
-    ensures fits { λ r. ⌜ r .counted .0 ≤ 4294967295 * r .count ⌝ }
+    ensures fits { λ r. ⌜ r .counted .0 ≤ mostWord * r .count ⌝ }
 {
     if (days <= 31) & stands(part, x, 24 * (days as u16)) {
         return by_day(part, x, days, control);

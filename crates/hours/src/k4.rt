@@ -7,6 +7,7 @@ use crate::series::power;
 use crate::series::stands;
 use rules::Series;
 use units::Tenths;
+ghost use Rattle.laws.specs.Bounds.{mostWord};
 
 // Over the hours: m, and what was met of it (k4).
 pub struct K4 {
@@ -69,7 +70,7 @@ fn through_hours(part: &[u8], working: Series, possible: Series, days: u8, summe
 // k4's sums over a month of so many days, for a summed capacity S. There are none where the part ends before the powers do.
 pub fn k4_sums(part: &[u8], working: Series, possible: Series, days: u8, summed: Tenths) -> K4
     ensures { λ r. ⌜ r ≡ k4In (now (part .entry)) working possible days (summed .0) ⌝ }
-    ensures fits { λ r. ⌜ (r .asked .0 ≤ 4294967295 * (24 * days)) × (r .met .0 ≤ 4294967295 * (24 * days)) ⌝ }
+    ensures fits { λ r. ⌜ (r .asked .0 ≤ mostWord * (24 * days)) × (r .met .0 ≤ mostWord * (24 * days)) ⌝ }
 {
     let hours = 24 * (days as u16);
     if stands(part, working, hours) & stands(part, possible, hours) {

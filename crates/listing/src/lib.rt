@@ -2,10 +2,10 @@
 ghost use mathlib.Core.Path.{_≡_};
 ghost use Prim.Native.Nat.{_≤_};
 ghost use Rattle.rules.specs.Outcome.{outcome};
-ghost use Rattle.settlement.specs.Said.{said};
+ghost use Rattle.rules.specs.Said.{said};
 use fields::byte;
 use fields::word;
-use settlement::Answer;
+use rules::Answer;
 use settlement::settle;
 use sheet::header;
 

@@ -4,7 +4,8 @@ use Prim.Native.Nat.{ℕ, _*_, _≤_}
 use Rattle.rules.specs.ControlHours.{average}
 use Rattle.laws.proofs.Units.{rounded-at-most}
 use Rattle.laws.proofs.Coefficients.{average-is}
+use Rattle.laws.specs.Bounds.{mostWord}
 
 -- The average of four-byte figures is a four-byte figure.
-pub average-fits : (n : ℕ) {total : ℕ} → total ≤ 4294967295 * n → average total n ≤ 4294967295
-average-fits n h = rw average-is (rounded-at-most 4294967295 n h)
+pub average-fits : (n : ℕ) {total : ℕ} → total ≤ mostWord * n → average total n ≤ mostWord
+average-fits n h = rw average-is (rounded-at-most mostWord n h)

@@ -7,6 +7,7 @@ ghost use Rattle.rules.specs.ControlHours.{controlDay};
 ghost use Rattle.rules.specs.Bands.{bandOf, thousandths};
 ghost use Rattle.rules.specs.Coefficients.{ratio, lessPenalty, millionthsOf};
 ghost use Rattle.laws.specs.Lists.{listed};
+ghost use Rattle.laws.specs.Bounds.{mostWord};
 ghost use Rattle.volumes.specs.Volumes.{Fits, mostVolume, volumesOf};
 ghost use Rattle.producers.specs.Terms.{mostPart, overOf, ksFrom, termsAt, termsOf, withTerms};
 use calendar::ControlDays;
@@ -65,7 +66,7 @@ fn less_penalty(support: Tenths, penalty: u64) -> Ratio
 
 // k1 before it is rounded.
 fn exact_k1(control: Control, deductible: u32, support: Tenths) -> Ratio
-    requires { ⌜ (control .counted .0 ≤ 4294967295 * control .count) × (support .0 ≤ mostVolume) ⌝ }
+    requires { ⌜ (control .counted .0 ≤ mostWord * control .count) × (support .0 ≤ mostVolume) ⌝ }
     ensures { λ r. ⌜ (r ≡ lessPenalty (support .0) (bandOf (thousandths (overOf control deductible) deductible) * overOf control deductible))
         × (r .part ≤ mostPart) ⌝ }
 {
@@ -136,10 +137,10 @@ fn excess_of(summed: Tenths, own: u32, attested: u32) -> Tenths
 }
 
 // Producer p's excess and coefficients, before the first row.
-fn terms_of(s: &[u8], layout: Layout, p: u8, v: Volumes, days: ControlDays) -> Terms
+fn terms_of(s: &[u8], layout: Layout, p: u8, v: Volumes, control: ControlDays) -> Terms
     requires { ⌜ (layout .header .days ≤ 31) × (hoursAt layout p + hoursWidth (layout .header) ≤ length (now s)) ⌝ }
     requires { ⌜ (v ≡ volumesOf (monthUnder layout (now s)) p) × Fits v ⌝ }
-    requires { ⌜ days .on ≡ listed (controlDay (layout .header)) 31 ⌝ }
+    requires { ⌜ control .on ≡ listed (controlDay (layout .header)) 31 ⌝ }
     ensures { λ r. ⌜ r ≡ termsAt (monthUnder layout (now (s .entry))) p 0 ⌝ }
 {
     let x = producer(s, layout, p);
@@ -147,10 +148,10 @@ fn terms_of(s: &[u8], layout: Layout, p: u8, v: Volumes, days: ControlDays) -> T
     let excess = excess_of(summed, x.needs, x.attested);
     let hours = stretch(s, layout, p);
     let of = hour_series(layout);
-    let month = layout.header.days;
-    let sums = k4_sums(hours, of.working, of.possible, month, summed);
-    let control = control_hours(hours, of.outside, month, days);
-    let k1 = exact_k1(control, x.deductible, v.support);
+    let days = layout.header.days;
+    let sums = k4_sums(hours, of.working, of.possible, days, summed);
+    let counted = control_hours(hours, of.outside, days, control);
+    let k1 = exact_k1(counted, x.deductible, v.support);
     let ks = ks_of(layout.header, x, k1, exact_k4(sums));
     Terms { excess, ks }
 }

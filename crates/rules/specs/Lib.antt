@@ -14,6 +14,7 @@ pub mod Result
 pub mod Refusals
 pub mod Limits
 pub mod Outcome
+pub mod Said
 pub mod Samples
 pub mod Open
 pub mod CheckedMonths

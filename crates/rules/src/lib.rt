@@ -80,3 +80,9 @@ pub struct Ratio {
     pub part: u64,
     pub whole: u64,
 }
+
+// What an entry answers: a refusal with its number, or the count of bytes written.
+pub enum Answer {
+    Refused(u8),
+    Written(usize),
+}

@@ -3,17 +3,12 @@ ghost use mathlib.Core.Path.{_≡_};
 ghost use lib.ListN.{length};
 ghost use Prim.Native.Nat.{_+_};
 ghost use Rattle.rules.specs.Outcome.{outcome, bufferAfter, hoursStretch, within};
-ghost use Rattle.settlement.specs.Said.{said};
+ghost use Rattle.rules.specs.Said.{said};
 use places::result_length;
 use refusals_form::front_refusal;
 use refusals_form::producer_hours;
 use result::settle_month;
-
-// What a settlement answers: a refusal with its number, or the count of bytes written.
-pub enum Answer {
-    Refused(u8),
-    Written(usize),
-}
+use rules::Answer;
 
 // Settles a sheet into a result buffer. A refusal changes no byte of the buffer; bytes past a result keep what they had.
 pub fn settle(sheet: &[u8], result: &mut [u8]) -> Answer

@@ -3,7 +3,7 @@
 use fields::byte;
 use fields::word;
 use libc::STDOUT_FILENO;
-use settlement::Answer;
+use rules::Answer;
 use settlement::settle;
 
 // What stands before a case's sheet: the sheet's length, the result buffer's length, and the rival's answer, which is a refusal's number

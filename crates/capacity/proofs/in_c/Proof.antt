@@ -1,7 +1,7 @@
 use native.Mathlib.Omega.{arith}
 use mathlib.Core.Path.{sym, ap, _∙_}
 use Prim.Native.Nat.{_<_}
-use Rattle.settlement.specs.Said.{said}
+use Rattle.rules.specs.Said.{said}
 use Rattle.capacity.specs.InC.{inC, counted, countEnd}
 use Rattle.capacity.proofs.Signed.{number-fits, number-back, count-fits, count-back}
 use borrow.Author.Needs.{needs}

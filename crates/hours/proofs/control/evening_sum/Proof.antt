@@ -3,6 +3,7 @@ use mathlib.Core.Path.{_≡_, sym, _∙_}
 use Prim.Native.Nat.{_+_, _-_, _*_, _≤_, zero-le}
 use Rattle.rules.specs.Range.{sum}
 use Rattle.laws.proofs.Range.{sum-none, sum-fold, sum-done}
+use Rattle.laws.specs.Bounds.{mostWord}
 use Rattle.units.proofs.Adding.{added-exact}
 use Rattle.hours.specs.Series.{powerIn}
 use Rattle.hours.proofs.Standing.{fewer}
@@ -11,7 +12,7 @@ use Rattle.hours.proofs.control.evening_sum.Statement.{statement}
 use Rattle.hours.proofs.control.evening_sum.Tie as tie
 
 abbrev Inv-loop : tie.InvT-loop
-Inv-loop part x day total₀ t₀ total t = (total .0 ≡ sum (λ i. powerIn part x (24 * day + (17 + i))) t) × (total .0 ≤ 4294967295 * t) × (t ≤ 6)
+Inv-loop part x day total₀ t₀ total t = (total .0 ≡ sum (λ i. powerIn part x (24 * day + (17 + i))) t) × (total .0 ≤ mostWord * t) × (t ≤ 6)
 
 abbrev μ-loop : tie.MeasureT-loop
 μ-loop part x day total₀ t₀ total t = 6 - t
