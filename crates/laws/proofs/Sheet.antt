@@ -4,7 +4,7 @@ use Prim.Native.Nat.{ℕ, _+_, _*_, _≤_, _<_}
 use native.Mathlib.Nat.{mul-le-mul, mul-le-mul-right}
 use native.Mathlib.Omega.{arith}
 use Rattle.rules.specs.declared.Layout.{Layout}
-use Rattle.rules.specs.Sheet.{hoursWidth, producerAt, hoursAt, rowAt, consumerAt, sheetLength}
+use Rattle.rules.specs.Sheet.{hoursWidth, rowWidth, consumerWidth, producerAt, hoursAt, rowAt, consumerAt, sheetLength}
 
 -- Number 6's length, in document 01's words.
 pub sheet-length : (l : Layout)
@@ -16,6 +16,15 @@ sheet-length l = omega arith
 pub hours-inside : (l : Layout) (p : ℕ) → p < l .header .producers → hoursAt l p + hoursWidth (l .header) ≤ sheetLength l
 unfolding sheetLength consumerAt rowAt hoursAt producerAt
 hours-inside l p b = omega (arith, mul-le-mul-right (42 + 288 * l .header .days) b)
+
+-- So do a row below R and a consumer below C.
+pub row-inside : (l : Layout) (j : ℕ) → j < l .header .rows → rowAt l j + rowWidth l ≤ sheetLength l
+unfolding sheetLength consumerAt rowAt
+row-inside l j b = omega arith
+
+pub consumer-inside : (l : Layout) (c : ℕ) → c < l .header .consumers → consumerAt l c + consumerWidth l ≤ sheetLength l
+unfolding sheetLength consumerAt
+consumer-inside l c b = omega arith
 
 -- The bytes before a producer's place are not many, whatever a header's bytes say.
 pub producers-le : (p days : ℕ) → p ≤ 255 → days ≤ 255 → p * (42 + 288 * days) ≤ 18737910

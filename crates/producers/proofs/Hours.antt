@@ -24,7 +24,7 @@ use Rattle.laws.proofs.Arrays.{getD-listed}
 use Rattle.laws.proofs.Fields.{read-part}
 use Rattle.laws.proofs.ControlHours.{evening, control-by-day, count-by-day}
 use Rattle.units.specs.Sums.{tenths}
-use Rattle.sheet.specs.Producers.{stretchIn}
+use Rattle.sheet.specs.Whole.{stretchIn}
 use Rattle.sheet.proofs.Whole.{stretch-whole}
 use Rattle.hours.specs.declared.k4.K4.{K4}
 use Rattle.hours.specs.declared.control.Control.{Control}

@@ -170,6 +170,16 @@ fn with_terms(s: &[u8], layout: Layout) -> u8
     }
 }
 
+// The month's control days, where some producer has terms.
+fn control_for(h: Header, n: u8) -> ControlDays
+    ensures { λ r. ⌜ (0 < n → r .on ≡ listed (controlDay h) 31) ⌝ }
+{
+    if n == 0 {
+        return ControlDays { on: [false; 31] };
+    }
+    control_days(h)
+}
+
 // The excess and the coefficients of six producers, before the first row.
 pub fn all_terms(s: &[u8], layout: Layout) -> AllTerms
     ensures { λ r. ⌜ r .of ≡ listed (termsOf layout (now (s .entry))) 6 ⌝ }
@@ -179,17 +189,14 @@ pub fn all_terms(s: &[u8], layout: Layout) -> AllTerms
         ks: [0; 10],
     };
     let mut of = [none; 6];
-    let n = with_terms(s, layout);
-    if n == 0 {
-        return AllTerms { of };
-    }
     let volumes = row_volumes(s, layout);
-    let days = control_days(layout.header);
+    let n = with_terms(s, layout);
+    let control = control_for(layout.header, n);
     let mut p: u8 = 0;
     while p < n {
         let i = p as usize;
         let v = volumes.of[i];
-        of[i] = terms_of(s, layout, p, v, days);
+        of[i] = terms_of(s, layout, p, v, control);
         p += 1;
     }
     AllTerms { of }

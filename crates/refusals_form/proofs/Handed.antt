@@ -9,7 +9,7 @@ use Rattle.rules.specs.Sheet.{headerOf, layoutOf}
 use Rattle.rules.specs.Refusals.{formTests, firstOf}
 use Rattle.rules.specs.Outcome.{Stretch, hoursStretch, within}
 use Rattle.laws.proofs.Refusals.{stretch-there, stretch-ends}
-use Rattle.sheet.specs.Producers.{stretchIn}
+use Rattle.sheet.specs.Whole.{stretchIn}
 use Rattle.sheet.proofs.Whole.{stretch-whole}
 
 -- No stretch: nothing, from the sheet's start.

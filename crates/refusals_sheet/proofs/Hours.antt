@@ -16,7 +16,7 @@ use Rattle.rules.specs.Refusals.{oneOf, tooHigh, badShare, highHour, highProduc
 use Rattle.rules.specs.Outcome.{within}
 use Rattle.laws.proofs.Range.{any-same, any-threes}
 use Rattle.laws.proofs.Sheet.{hours-inside}
-use Rattle.sheet.specs.Producers.{statedIn, stretchIn}
+use Rattle.sheet.specs.Whole.{statedIn, stretchIn}
 use Rattle.sheet.proofs.Whole.{stated-whole, stretch-whole}
 use Rattle.refusals_record.specs.Stated.{withoutPower, highStated}
 use Rattle.refusals_powers.specs.Powers.{highPowers, highFrom}

@@ -63,6 +63,7 @@ fn producer_tests(s: &[u8], layout: Layout) -> ProducerTests
 }
 
 fn row_tests(s: &[u8], layout: Layout) -> RowTests
+    requires { ⌜ sheetLength layout ≤ length (now s) ⌝ }
     ensures { λ r. ⌜ r ≡ rowTests (monthUnder layout (now (s .entry))) ⌝ }
 {
     let mut high = false;
@@ -84,6 +85,7 @@ fn row_tests(s: &[u8], layout: Layout) -> RowTests
 }
 
 fn consumer_tests(s: &[u8], layout: Layout) -> ConsumerTests
+    requires { ⌜ sheetLength layout ≤ length (now s) ⌝ }
     ensures { λ r. ⌜ r ≡ consumerTests (monthUnder layout (now (s .entry))) ⌝ }
 {
     let mut high = false;

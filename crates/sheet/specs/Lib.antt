@@ -1,1 +1,1 @@
-pub mod Producers
+pub mod Whole

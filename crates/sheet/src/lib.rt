@@ -1,10 +1,11 @@
-// What a sheet says in its version, its header, its producers, its rows and its consumers.
+// What a sheet says in its version, its header, its producers, its rows and its consumers. A record that is not whole in the sheet reads as
+// nothing.
 ghost use mathlib.Core.Path.{_≡_};
-ghost use Prim.Native.Nat.{_+_, _≤_};
+ghost use Prim.Native.Nat.{_+_};
 ghost use lib.ListN.{length};
-ghost use Rattle.rules.specs.Sheet.{headerOf, layoutOf, rowAt, consumerAt, rowOf, consumerOf};
+ghost use Rattle.rules.specs.Sheet.{headerOf, layoutOf};
 ghost use Rattle.rules.specs.Outcome.{within};
-ghost use Rattle.sheet.specs.Producers.{noneStated, statedIn, stretchIn};
+ghost use Rattle.sheet.specs.Whole.{noneStated, noRow, noConsumer, statedIn, stretchIn, rowIn, consumerIn};
 use fields::byte;
 use fields::half;
 use fields::word;
@@ -103,27 +104,26 @@ pub fn stretch(s: &[u8], layout: Layout, p: u8) -> &[u8]
     &s[at..end]
 }
 
-// A row near the sheet's end: a byte past the end counts as 0.
-fn row_near_end(s: &[u8], at: usize) -> Row
-    requires { ⌜ at ≤ 20002550 ⌝ }
-    ensures { λ r. ⌜ r ≡ rowOf (now (s .entry)) at ⌝ }
+// No row.
+fn no_row() -> Row
+    ensures { λ r. ⌜ r ≡ noRow ⌝ }
 {
     Row {
-        producer: byte(s, at),
-        consumer: byte(s, at + 1),
-        volume: word(s, at + 2),
-        price: word(s, at + 6),
+        producer: 0,
+        consumer: 0,
+        volume: 0,
+        price: 0,
     }
 }
 
 // Row j. One part of the sheet is lent for its four figures, so that each of them is one load.
 pub fn row(s: &[u8], layout: Layout, j: u8) -> Row
-    ensures { λ r. ⌜ r ≡ rowOf (now (s .entry)) (rowAt layout j) ⌝ }
+    ensures { λ r. ⌜ r ≡ rowIn layout (now (s .entry)) j ⌝ }
 {
     let at = row_at(layout, j);
     let row_end = at + 10;
     if s.len() < row_end {
-        return row_near_end(s, at);
+        return no_row();
     }
     let part = &s[at..row_end];
     Row {
@@ -134,29 +134,28 @@ pub fn row(s: &[u8], layout: Layout, j: u8) -> Row
     }
 }
 
-// A consumer near the sheet's end: a byte past the end counts as 0.
-fn consumer_near_end(s: &[u8], at: usize) -> Consumer
-    requires { ⌜ at ≤ 20006375 ⌝ }
-    ensures { λ r. ⌜ r ≡ consumerOf (now (s .entry)) at ⌝ }
+// No consumer.
+fn no_consumer() -> Consumer
+    ensures { λ r. ⌜ r ≡ noConsumer ⌝ }
 {
     Consumer {
-        contract: word(s, at),
-        peak: word(s, at + 4),
-        supplier: byte(s, at + 8),
-        grid: byte(s, at + 9),
-        z: byte(s, at + 10),
-        price: word(s, at + 11),
+        contract: 0,
+        peak: 0,
+        supplier: 0,
+        grid: 0,
+        z: 0,
+        price: 0,
     }
 }
 
 // Consumer c. One part of the sheet is lent for its six figures, so that each of them is one load.
 pub fn consumer(s: &[u8], layout: Layout, c: u8) -> Consumer
-    ensures { λ r. ⌜ r ≡ consumerOf (now (s .entry)) (consumerAt layout c) ⌝ }
+    ensures { λ r. ⌜ r ≡ consumerIn layout (now (s .entry)) c ⌝ }
 {
     let at = consumer_at(layout, c);
     let consumer_end = at + 15;
     if s.len() < consumer_end {
-        return consumer_near_end(s, at);
+        return no_consumer();
     }
     let part = &s[at..consumer_end];
     Consumer {

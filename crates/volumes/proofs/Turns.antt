@@ -5,17 +5,19 @@ use mathlib.Core.List.{List}
 use Prim.Native.Nat.{ℕ, _+_, _*_, _≤_, _<_}
 use native.Mathlib.Nat.{add-zero}
 use native.Mathlib.Omega.{arith}
-use borrow.Author.Tests.{eq-eqb, ne-eqb}
-use lib.ListN.{getD, set, replicate}
+use borrow.Author.Tests.{eq-eqb, ne-eqb, le-ltb, lt-ltb}
+use lib.ListN.{length, getD, set, replicate}
 use Rattle.rules.specs.declared.Row.{Row}
 use Rattle.rules.specs.Range.{sum, when}
 use Rattle.rules.specs.Month.{Month}
+use Rattle.rules.specs.declared.Layout.{Layout}
+use Rattle.rules.specs.Sheet.{sheetLength, monthUnder}
 use Rattle.rules.specs.Cut.{owns, support, bilateral, ownSupport, ownBilateral}
 use Rattle.laws.proofs.Range.{sum-none, sum-more, when-le}
 use Rattle.laws.proofs.Arrays.{Agrees, agrees-as, agrees-filled, agrees-set}
 use Rattle.volumes.specs.declared.Volumes.{Volumes}
 use Rattle.units.specs.Sums.{tenths}
-use Rattle.volumes.specs.Volumes.{Fits, noVolumes, withRow}
+use Rattle.volumes.specs.Volumes.{Fits, noVolumes, volumesOf, volumesIn, withRow}
 
 -- T and B over the first j rows.
 abbrev upTo : Month → ℕ → ℕ → Volumes
@@ -66,3 +68,13 @@ module _ (m : Month) (j : ℕ) {r : Row} (is : r ≡ m .row j) where
               (λ p l n. other-same p (λ e. n (sym e))) (k .agrees);
           fits = fits-more;
         }
+
+-- In a whole sheet the volumes are the month's; in another there are none.
+module _ (l : Layout) (s : List ℕ) where
+  pub volumes-whole : sheetLength l ≤ length s → (p : ℕ) → volumesIn l s p ≡ volumesOf (monthUnder l s) p
+  unfolding volumesIn
+  volumes-whole h p = rw (le-ltb (length s) (sheetLength l) h)
+
+  pub volumes-short : length s < sheetLength l → (p : ℕ) → noVolumes ≡ volumesIn l s p
+  unfolding volumesIn
+  volumes-short h p = rw (lt-ltb (length s) (sheetLength l) h)

@@ -1,10 +1,14 @@
 -- The volumes of a producer's rows, as the struct that carries them.
 use Prim.Native.Nat.{ℕ, _+_, _≤_}
-use mathlib.Core.Bool.{not}
-use lib.Dec.{eqb}
+use mathlib.Core.Bool.{not, cond}
+use mathlib.Core.List.{List}
+use lib.ListN.{length}
+use lib.Dec.{eqb, ltb}
+use Rattle.rules.specs.declared.Layout.{Layout}
 use Rattle.rules.specs.declared.Row.{Row}
 use Rattle.rules.specs.Range.{when}
 use Rattle.rules.specs.Month.{Month}
+use Rattle.rules.specs.Sheet.{sheetLength, monthUnder}
 use Rattle.rules.specs.Cut.{supportVolume, bilateralVolume}
 use Rattle.units.specs.Sums.{tenths}
 use Rattle.volumes.specs.declared.Volumes.{Volumes}
@@ -24,6 +28,10 @@ volumesOf m p = record { support = tenths (supportVolume m p); bilateral = tenth
 -- Before the first row, and past the end of an array.
 abbrev pub noVolumes : Volumes
 noVolumes = record { support = tenths 0; bilateral = tenths 0 }
+
+-- T and B in a sheet; none where it ends before its length under the layout.
+unfoldable pub volumesIn : Layout → List ℕ → ℕ → Volumes
+volumesIn l s p = cond (ltb (length s) (sheetLength l)) noVolumes (volumesOf (monthUnder l s) p)
 
 -- With a row of the producer more.
 unfoldable pub withRow : Volumes → Row → Volumes

@@ -2,9 +2,9 @@
 ghost use mathlib.Core.Path.{_≡_};
 ghost use Prim.Native.Nat.{ℕ, _<_};
 ghost use lib.ListN.{getD};
-ghost use Rattle.rules.specs.Sheet.{monthUnder};
 ghost use Rattle.laws.specs.Lists.{listed};
-ghost use Rattle.volumes.specs.Volumes.{Fits, volumesOf, noVolumes, withRow};
+ghost use Rattle.volumes.specs.Volumes.{Fits, volumesIn, noVolumes, withRow};
+use places::sheet_length;
 use rules::Layout;
 use rules::Row;
 use sheet::row;
@@ -42,9 +42,9 @@ fn with_row(v: Volumes, r: Row) -> Volumes
     }
 }
 
-// T and B of six producers. A row of another producer counts for none.
+// T and B of six producers. A row of another producer counts for none, and no row where the sheet ends too soon.
 pub fn row_volumes(s: &[u8], layout: Layout) -> AllVolumes
-    ensures { λ r. ⌜ r .of ≡ listed (volumesOf (monthUnder layout (now (s .entry)))) 6 ⌝ }
+    ensures { λ r. ⌜ r .of ≡ listed (volumesIn layout (now (s .entry))) 6 ⌝ }
     ensures fits { λ r. ⌜ ((p : ℕ) → p < 6 → Fits (getD (r .of) p noVolumes)) ⌝ }
 {
     let none = Volumes {
@@ -52,6 +52,9 @@ pub fn row_volumes(s: &[u8], layout: Layout) -> AllVolumes
         bilateral: Tenths(0),
     };
     let mut of = [none; 6];
+    if s.len() < sheet_length(layout) {
+        return AllVolumes { of };
+    }
     let mut j: u8 = 0;
     while j < layout.header.rows {
         let r = row(s, layout, j);

@@ -1,6 +1,6 @@
 use borrow.Author.Needs.{needs}
 use native.Mathlib.Omega.{arith}
-use mathlib.Core.Path.{_≡_, sym, _∙_}
+use mathlib.Core.Path.{_≡_}
 use Prim.Native.Nat.{_-_, _≤_, _<_, zero-le}
 use native.Mathlib.Nat.{le-trans}
 use lib.ListN.{length}
@@ -8,44 +8,49 @@ use Rattle.rules.specs.Sheet.{sheetLength, monthUnder}
 use Rattle.laws.proofs.Sheet.{hours-inside}
 use Rattle.rules.specs.ControlHours.{controlDay}
 use Rattle.laws.specs.Lists.{listed}
-use Rattle.laws.proofs.Arrays.{agrees-listed, listed-agrees, filled-none, filled-more}
+use Rattle.laws.proofs.Arrays.{agrees-as, agrees-listed, listed-agrees, filled-none, filled-more}
+use Rattle.volumes.specs.Volumes.{noVolumes}
+use Rattle.volumes.proofs.Turns.{volumes-whole}
 use Rattle.producers.specs.Terms.{noTerms, zeroTerms, withTerms, Known}
 use Rattle.producers.proofs.Cuts.{VolumesKnown}
 use Rattle.producers.proofs.all_terms.Statement.{statement}
 use Rattle.producers.proofs.all_terms.Tie as tie
 
 abbrev Inv-loop : tie.InvT-loop
-Inv-loop s layout of₀ n volumes days p₀ of p =
+Inv-loop s layout of₀ volumes n control p₀ of p =
     Known (monthUnder layout s) 0 p of
     × (p ≤ n)
-    × VolumesKnown (monthUnder layout s) (volumes .of)
+    × (0 < n → VolumesKnown (monthUnder layout s) (volumes .of))
     × (n ≡ withTerms layout s)
     × (n ≤ 6)
     × (0 < n → (layout .header .days ≤ 31) × (n ≤ layout .header .producers) × (sheetLength layout ≤ length s))
-    × (days .on ≡ listed (controlDay (layout .header)) 31)
+    × (0 < n → control .on ≡ listed (controlDay (layout .header)) 31)
 
 abbrev μ-loop : tie.MeasureT-loop
-μ-loop s layout of₀ n volumes days p₀ of p = n - p
-
-with-terms-requires : tie.Need-with-terms-requires Inv-loop μ-loop
-with-terms-requires c κs = search needs
-
-returns : tie.Need-returns Inv-loop μ-loop
-returns c =
-    let none = sym (c .before .with-terms .ensures .0) ∙ c .if1 .taken in
-    rw none (agrees-listed (filled-none 6 noTerms zeroTerms _))
+μ-loop s layout of₀ volumes n control p₀ of p = n - p
 
 row-volumes-requires : tie.Need-row-volumes-requires Inv-loop μ-loop
 row-volumes-requires c κs = search needs
 
-control-days-requires : tie.Need-control-days-requires Inv-loop μ-loop
-control-days-requires c κs = search needs
+with-terms-requires : tie.Need-with-terms-requires Inv-loop μ-loop
+with-terms-requires c κs = search needs
+
+control-for-requires : tie.Need-control-for-requires Inv-loop μ-loop
+control-for-requires c κs = search needs
 
 loop-holds : tie.Need-loop-holds Inv-loop μ-loop
 loop-holds c =
-    let n = c .before .before .before .with-terms .ensures in
-    let v = c .before .row-volumes .ensures in
-    (filled-none 6 noTerms zeroTerms _, zero-le, (listed-agrees (v .0), v .1), n .0, n .1, n .2, c .control-days .ensures)
+    let n = c .before .with-terms .ensures in
+    let v = c .before .before .row-volumes .ensures in
+    (
+      filled-none 6 noTerms zeroTerms _,
+      zero-le,
+      (λ b. (agrees-as 6 noVolumes (λ p q. volumes-whole _ _ (n .2 b .2) p) (listed-agrees (v .0)), v .1)),
+      n .0,
+      n .1,
+      n .2,
+      c .control-for .ensures,
+    )
 
 cast-i : tie.Need-cast-i Inv-loop μ-loop
 cast-i c = search needs
@@ -60,10 +65,11 @@ terms-of-requires : tie.Need-terms-of-requires Inv-loop μ-loop
 terms-of-requires c κs =
     let inv = c .before .before .loop .inv in
     let some = inv .5 (omega arith) in
+    let volumes = inv .2 (omega arith) in
     let p : c .before .before .loop .p < 6 = omega arith in
-    let h = c .before .before .before .before .before .before .before .before .args .layout in (
+    let h = c .before .before .before .before .before .before .before .args .layout in (
       (some .0, le-trans (hours-inside h (c .before .before .loop .p) (omega (arith, some .1))) (some .2)),
-      ((inv .2 .0 .each _ p, inv .2 .1 _ p), inv .6),
+      ((volumes .0 .each _ p, volumes .1 _ p), inv .6 (omega arith)),
     )
 
 mul-of : tie.Need-mul-of Inv-loop μ-loop
@@ -83,10 +89,10 @@ loop-again c =
     let inv = c .before .before .before .loop .inv in
     (filled-more 6 noTerms zeroTerms _ _ (omega arith) (c .terms-of .ensures) (inv .0), omega arith, inv .2, inv .3, inv .4, inv .5, inv .6)
 
-returns-2 : tie.Need-returns-2 Inv-loop μ-loop
-returns-2 c =
+returns : tie.Need-returns Inv-loop μ-loop
+returns c =
     let inv = c .before .loop .inv in
-    let a = c .before .before .before .before .before .before .before .args in
+    let a = c .before .before .before .before .before .before .args in
     let end : c .before .loop .p ≡ withTerms (a .layout) (a .s .now) = omega arith in
     agrees-listed (rw end at (inv .0))
 
@@ -96,10 +102,9 @@ all-terms-spec =
     (tie.spec
     Inv-loop
     μ-loop
-    with-terms-requires
-    returns
     row-volumes-requires
-    control-days-requires
+    with-terms-requires
+    control-for-requires
     loop-holds
     cast-i
     mul-v
@@ -110,4 +115,4 @@ all-terms-spec =
     add-p
     loop-less
     loop-again
-    returns-2)
+    returns)

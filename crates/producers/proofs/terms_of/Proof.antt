@@ -10,7 +10,7 @@ use Rattle.rules.specs.Sheet.{hoursWidth, hoursAt, producerAt, statedOf, produc
 use Rattle.rules.specs.Cut.{summedCapacity}
 use Rattle.rules.specs.Coefficients.{exactK1}
 use Rattle.units.specs.Sums.{tenths}
-use Rattle.sheet.specs.Producers.{statedIn}
+use Rattle.sheet.specs.Whole.{statedIn}
 use Rattle.sheet.proofs.Whole.{stated-whole}
 use Rattle.volumes.specs.declared.Volumes.{Volumes}
 use Rattle.producers.proofs.Cuts.{summed-is, left-stated, ks-known}

@@ -7,6 +7,7 @@ use Rattle.rules.specs.Sheet.{monthUnder}
 use Rattle.laws.proofs.Range.{any-start, any-fold, any-done}
 use Rattle.rules.specs.Refusals.{highConsumer, badFactor, tooDear}
 use Rattle.rules.specs.declared.Consumer.{Consumer}
+use Rattle.sheet.proofs.Whole.{consumer-there}
 use Rattle.refusals_sheet.proofs.consumer_tests.Statement.{statement}
 use Rattle.refusals_sheet.proofs.consumer_tests.Tie as tie
 
@@ -41,11 +42,17 @@ add-j c = omega arith
 loop-less : tie.Need-loop-less Inv-loop μ-loop
 loop-less c = omega arith
 
+-- What was read is the month's.
+consumer-read : (c : tie.After-bad-factor Inv-loop μ-loop) → c .before .before .before .consumer .result ≡ monthUnder (c .before .before .before .before .before .before .before .before .args .layout) (c .before .before .before .before .before .before .before .before .args .s .now) .consumer (c .before .before .before .before .before .before .loop .j)
+consumer-read c =
+    let a = c .before .before .before .before .before .before .before .before in
+    c .before .before .before .consumer .ensures ∙ consumer-there (a .args .layout) (a .args .s .now) (c .before .before .before .before .before .before .loop .j) (a .pre) (omega arith)
+
 loop-again : tie.Need-loop-again Inv-loop μ-loop
 loop-again c = (
-  any-fold _ _ (c .before .before .before .before .before .before .loop .inv .0) (c .before .before .high-consumer .ensures ∙ ap highConsumer (c .before .before .before .consumer .ensures)),
-  any-fold _ _ (c .before .before .before .before .before .before .loop .inv .1) (c .before .too-dear .ensures ∙ ap (λ (k : Consumer). tooDear (k .price)) (c .before .before .before .consumer .ensures)),
-  any-fold _ _ (c .before .before .before .before .before .before .loop .inv .2) (c .bad-factor .ensures ∙ ap (badFactor _) (c .before .before .before .consumer .ensures)),
+  any-fold _ _ (c .before .before .before .before .before .before .loop .inv .0) (c .before .before .high-consumer .ensures ∙ ap highConsumer (consumer-read c)),
+  any-fold _ _ (c .before .before .before .before .before .before .loop .inv .1) (c .before .too-dear .ensures ∙ ap (λ (k : Consumer). tooDear (k .price)) (consumer-read c)),
+  any-fold _ _ (c .before .before .before .before .before .before .loop .inv .2) (c .bad-factor .ensures ∙ ap (badFactor _) (consumer-read c)),
   omega arith,
 )
 

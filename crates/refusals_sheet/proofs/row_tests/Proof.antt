@@ -7,6 +7,7 @@ use Rattle.rules.specs.Sheet.{monthUnder}
 use Rattle.laws.proofs.Range.{any-start, any-fold, any-done}
 use Rattle.rules.specs.Refusals.{tooHigh, highRow, badReference, tooDear}
 use Rattle.rules.specs.declared.Row.{Row}
+use Rattle.sheet.proofs.Whole.{row-there}
 use Rattle.refusals_sheet.proofs.row_tests.Statement.{statement}
 use Rattle.refusals_sheet.proofs.row_tests.Tie as tie
 
@@ -41,12 +42,18 @@ add-j c = omega arith
 loop-less : tie.Need-loop-less Inv-loop μ-loop
 loop-less c = omega arith
 
+-- What was read is the month's.
+row-read : (c : tie.After-too-dear Inv-loop μ-loop) → c .before .before .before .row .result ≡ monthUnder (c .before .before .before .before .before .before .before .before .args .layout) (c .before .before .before .before .before .before .before .before .args .s .now) .row (c .before .before .before .before .before .before .loop .j)
+row-read c =
+    let a = c .before .before .before .before .before .before .before .before in
+    c .before .before .before .row .ensures ∙ row-there (a .args .layout) (a .args .s .now) (c .before .before .before .before .before .before .loop .j) (a .pre) (omega arith)
+
 loop-again : tie.Need-loop-again Inv-loop μ-loop
 unfolding highRow
 loop-again c = (
-  any-fold _ _ (c .before .before .before .before .before .before .loop .inv .0) (c .before .before .too-high .ensures ∙ ap (λ (r : Row). tooHigh (r .volume)) (c .before .before .before .row .ensures)),
-  any-fold _ _ (c .before .before .before .before .before .before .loop .inv .1) (c .before .bad-reference .ensures ∙ ap (badReference _) (c .before .before .before .row .ensures)),
-  any-fold _ _ (c .before .before .before .before .before .before .loop .inv .2) (c .too-dear .ensures ∙ ap (λ (r : Row). tooDear (r .price)) (c .before .before .before .row .ensures)),
+  any-fold _ _ (c .before .before .before .before .before .before .loop .inv .0) (c .before .before .too-high .ensures ∙ ap (λ (r : Row). tooHigh (r .volume)) (row-read c)),
+  any-fold _ _ (c .before .before .before .before .before .before .loop .inv .1) (c .before .bad-reference .ensures ∙ ap (badReference _) (row-read c)),
+  any-fold _ _ (c .before .before .before .before .before .before .loop .inv .2) (c .too-dear .ensures ∙ ap (λ (r : Row). tooDear (r .price)) (row-read c)),
   omega arith,
 )
 

@@ -1,8 +1,9 @@
 use native.Mathlib.Omega.{arith}
-use mathlib.Core.Path.{ap, _∙_}
+use mathlib.Core.Path.{sym, ap, _∙_}
 use Prim.Native.Nat.{_+_, _-_}
 use Rattle.rules.specs.Sheet.{consumerOf}
 use Rattle.sheet.proofs.Parts.{consumer-in-part}
+use Rattle.sheet.proofs.Whole.{consumer-whole, consumer-short}
 use borrow.Author.Needs.{needs}
 use Rattle.sheet.proofs.consumer.Statement.{statement}
 use Rattle.sheet.proofs.consumer.Tie as tie
@@ -13,11 +14,14 @@ consumer-at-requires c κs = search needs
 add-consumer-end : tie.Need-add-consumer-end
 add-consumer-end c = search needs
 
-consumer-near-end-requires : tie.Need-consumer-near-end-requires
-consumer-near-end-requires c κs = search needs
+no-consumer-requires : tie.Need-no-consumer-requires
+no-consumer-requires c κs = search needs
 
 returns : tie.Need-returns
-returns c = rw (c .consumer-near-end .ensures, c .before .before .consumer-at .ensures .0)
+returns c =
+    let a = c .before .before .before .before .args in
+    let at = c .before .before .consumer-at .ensures .0 in
+    c .no-consumer .ensures ∙ sym (consumer-short (a .layout) (a .s .now) (a .c) (omega (arith, at, c .before .if1 .taken)))
 
 sub-part : tie.Need-sub-part
 sub-part c = search needs
@@ -49,9 +53,12 @@ word-requires-3 c κs = search needs
 returns-2 : tie.Need-returns-2
 returns-2 c =
     let place = c .before .before .before .before .before .before .before .before .consumer-at in
-    let s = c .before .before .before .before .before .before .before .before .before .before .args .s .now in
+    let a = c .before .before .before .before .before .before .before .before .before .before .args in
+    let s = a .s .now in
     rw (c .before .before .before .before .before .word .ensures, c .before .before .before .before .word2 .ensures, c .before .before .before .byte .ensures, c .before .before .byte2 .ensures, c .before .byte3 .ensures, c .word3 .ensures)
-    (consumer-in-part s (place .result) (place .result + 15 - place .result) (omega arith) ∙ ap (consumerOf s) (place .ensures .0))
+    (consumer-in-part s (place .result) (place .result + 15 - place .result) (omega arith)
+    ∙ ap (consumerOf s) (place .ensures .0)
+    ∙ sym (consumer-whole (a .layout) s (a .c) (omega (arith, place .ensures .0, c .before .before .before .before .before .before .before .if1 .left))))
 
 pub consumer-spec : {M : Type 1} → statement M
 consumer-spec =
@@ -59,7 +66,7 @@ consumer-spec =
     (tie.spec
     consumer-at-requires
     add-consumer-end
-    consumer-near-end-requires
+    no-consumer-requires
     returns
     sub-part
     part-part-start

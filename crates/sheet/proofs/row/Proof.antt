@@ -1,8 +1,9 @@
 use native.Mathlib.Omega.{arith}
-use mathlib.Core.Path.{ap, _∙_}
+use mathlib.Core.Path.{sym, ap, _∙_}
 use Prim.Native.Nat.{_+_, _-_}
 use Rattle.rules.specs.Sheet.{rowOf}
 use Rattle.sheet.proofs.Parts.{row-in-part}
+use Rattle.sheet.proofs.Whole.{row-whole, row-short}
 use borrow.Author.Needs.{needs}
 use Rattle.sheet.proofs.row.Statement.{statement}
 use Rattle.sheet.proofs.row.Tie as tie
@@ -13,11 +14,14 @@ row-at-requires c κs = search needs
 add-row-end : tie.Need-add-row-end
 add-row-end c = search needs
 
-row-near-end-requires : tie.Need-row-near-end-requires
-row-near-end-requires c κs = search needs
+no-row-requires : tie.Need-no-row-requires
+no-row-requires c κs = search needs
 
 returns : tie.Need-returns
-returns c = rw (c .row-near-end .ensures, c .before .before .row-at .ensures .0)
+returns c =
+    let a = c .before .before .before .before .args in
+    let at = c .before .before .row-at .ensures .0 in
+    c .no-row .ensures ∙ sym (row-short (a .layout) (a .s .now) (a .j) (omega (arith, at, c .before .if1 .taken)))
 
 sub-part : tie.Need-sub-part
 sub-part c = search needs
@@ -43,9 +47,12 @@ word-requires-2 c κs = search needs
 returns-2 : tie.Need-returns-2
 returns-2 c =
     let place = c .before .before .before .before .before .before .row-at in
-    let s = c .before .before .before .before .before .before .before .before .args .s .now in
+    let a = c .before .before .before .before .before .before .before .before .args in
+    let s = a .s .now in
     rw (c .before .before .before .byte .ensures, c .before .before .byte2 .ensures, c .before .word .ensures, c .word2 .ensures)
-    (row-in-part s (place .result) (place .result + 10 - place .result) (omega arith) ∙ ap (rowOf s) (place .ensures .0))
+    (row-in-part s (place .result) (place .result + 10 - place .result) (omega arith)
+    ∙ ap (rowOf s) (place .ensures .0)
+    ∙ sym (row-whole (a .layout) s (a .j) (omega (arith, place .ensures .0, c .before .before .before .before .before .if1 .left))))
 
 pub row-spec : {M : Type 1} → statement M
 row-spec =
@@ -53,7 +60,7 @@ row-spec =
     (tie.spec
     row-at-requires
     add-row-end
-    row-near-end-requires
+    no-row-requires
     returns
     sub-part
     part-part-start

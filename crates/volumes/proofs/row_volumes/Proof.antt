@@ -1,12 +1,15 @@
-use Rattle.laws.proofs.Arrays.{agrees-listed}
 use borrow.Author.Needs.{needs}
 use native.Mathlib.Omega.{arith}
-use mathlib.Core.Path.{_≡_}
+use mathlib.Core.Path.{_≡_, sym, _∙_}
 use mathlib.Core.Logic.{⊎-elim}
-use Prim.Native.Nat.{_-_, _≤_, zero-le}
-use Rattle.rules.specs.Sheet.{monthUnder}
+use Prim.Native.Nat.{_-_, _≤_, _<_, zero-le}
+use lib.ListN.{length, getD-replicate}
+use Rattle.rules.specs.Sheet.{sheetLength, monthUnder}
 use Rattle.rules.specs.Cut.{supportVolume, bilateralVolume}
-use Rattle.volumes.proofs.Turns.{Counted, counted-fits, counted-none, counted-own, counted-other}
+use Rattle.laws.proofs.Arrays.{agrees-as, agrees-filled, agrees-listed}
+use Rattle.sheet.proofs.Whole.{row-there}
+use Rattle.volumes.specs.Volumes.{noVolumes}
+use Rattle.volumes.proofs.Turns.{volumes-whole, volumes-short, Counted, counted-fits, counted-none, counted-own, counted-other}
 use Rattle.volumes.proofs.row_volumes.Statement.{statement}
 use Rattle.volumes.proofs.row_volumes.Tie as tie
 
@@ -15,6 +18,15 @@ Inv-loop s layout of₀ j₀ of j = Counted (monthUnder layout s) j of × (j ≤
 
 abbrev μ-loop : tie.MeasureT-loop
 μ-loop s layout of₀ j₀ of j = layout .header .rows - j
+
+sheet-length-requires : tie.Need-sheet-length-requires Inv-loop μ-loop
+sheet-length-requires c κs = search needs
+
+returns : tie.Need-returns Inv-loop μ-loop
+returns c =
+    let a = c .before .before .before .args in
+    let short : length (a .s .now) < sheetLength (a .layout) = omega (arith, c .if1 .taken, c .before .sheet-length .ensures) in
+    (agrees-listed (agrees-filled 6 noVolumes noVolumes (λ p b. volumes-short (a .layout) (a .s .now) short p)), λ p b. rw (getD-replicate 6 p noVolumes noVolumes b) (zero-le, zero-le))
 
 loop-holds : tie.Need-loop-holds Inv-loop μ-loop
 loop-holds c = (counted-none _, zero-le)
@@ -49,22 +61,23 @@ loop-less c = omega arith
 loop-again : tie.Need-loop-again Inv-loop μ-loop
 loop-again c =
     let l = c .before .before .before .before .before .loop in
-    let er = c .before .before .row .ensures in (
+    let a = c .before .before .before .before .before .before .before .before .before in
+    let er = c .before .before .row .ensures ∙ row-there (a .args .layout) (a .args .s .now) (l .j) (omega arith) (omega arith) in (
       ⊎-elim
           (λ w. rw (w .4, w .3 .ensures) (counted-own _ _ er (omega arith) _ (l .inv .0) (w .0 .taken)))
           (λ w. rw (w .1) (counted-other _ _ er (omega arith) _ (l .inv .0) (w .0 .left)))
-          (c .if2 .came),
+          (c .if3 .came),
       omega arith,
     )
 
-returns : tie.Need-returns Inv-loop μ-loop
+returns-2 : tie.Need-returns-2 Inv-loop μ-loop
 unfolding supportVolume bilateralVolume
-returns c =
+returns-2 c =
     let l = c .before .before .loop in
-    let a = c .before .before .before .before in
+    let a = c .before .before .before .before .before .before in
     let end : l .j ≡ a .args .layout .header .rows = omega arith in
     let all = rw end at (l .inv .0) in
-    (agrees-listed (all .agrees), counted-fits all (omega arith))
+    (agrees-listed (agrees-as 6 noVolumes (λ p b. sym (volumes-whole (a .args .layout) (a .args .s .now) (omega arith) p)) (all .agrees)), counted-fits all (omega arith))
 
 pub row-volumes-spec : {M : Type 1} → statement M
 row-volumes-spec =
@@ -72,6 +85,8 @@ row-volumes-spec =
     (tie.spec
     Inv-loop
     μ-loop
+    sheet-length-requires
+    returns
     loop-holds
     row-requires
     cast-p
@@ -83,4 +98,4 @@ row-volumes-spec =
     add-j
     loop-less
     loop-again
-    returns)
+    returns-2)
