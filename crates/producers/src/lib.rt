@@ -188,7 +188,7 @@ pub fn all_terms(s: &[u8], layout: Layout) -> AllTerms
         excess: Tenths(0),
         ks: [0; 10],
     };
-    let mut of = [none; 6];
+    let mut all = AllTerms { of: [none; 6] };
     let volumes = row_volumes(s, layout);
     let n = with_terms(s, layout);
     let control = control_for(layout.header, n);
@@ -196,8 +196,9 @@ pub fn all_terms(s: &[u8], layout: Layout) -> AllTerms
     while p < n {
         let i = p as usize;
         let v = volumes.of[i];
-        of[i] = terms_of(s, layout, p, v, control);
+        let t = terms_of(s, layout, p, v, control);
+        all.of[i] = t;
         p += 1;
     }
-    AllTerms { of }
+    all
 }

@@ -17,8 +17,8 @@ use Rattle.producers.proofs.all_terms.Statement.{statement}
 use Rattle.producers.proofs.all_terms.Tie as tie
 
 abbrev Inv-loop : tie.InvT-loop
-Inv-loop s layout of₀ volumes n control p₀ of p =
-    Known (monthUnder layout s) 0 p of
+Inv-loop s layout all₀ volumes n control p₀ all p =
+    Known (monthUnder layout s) 0 p (all .of)
     × (p ≤ n)
     × (0 < n → VolumesKnown (monthUnder layout s) (volumes .of))
     × (n ≡ withTerms layout s)
@@ -27,7 +27,7 @@ Inv-loop s layout of₀ volumes n control p₀ of p =
     × (0 < n → control .on ≡ listed (controlDay (layout .header)) 31)
 
 abbrev μ-loop : tie.MeasureT-loop
-μ-loop s layout of₀ volumes n control p₀ of p = n - p
+μ-loop s layout all₀ volumes n control p₀ all p = n - p
 
 row-volumes-requires : tie.Need-row-volumes-requires Inv-loop μ-loop
 row-volumes-requires c κs = search needs
@@ -72,11 +72,11 @@ terms-of-requires c κs =
       ((volumes .0 .each _ p, volumes .1 _ p), inv .6 (omega arith)),
     )
 
-mul-of : tie.Need-mul-of Inv-loop μ-loop
-mul-of c = search needs
+mul-t : tie.Need-mul-t Inv-loop μ-loop
+mul-t c = search needs
 
-array-set-from-of : tie.Need-array-set-from-of Inv-loop μ-loop
-array-set-from-of c = omega arith
+element-set-from-t : tie.Need-element-set-from-t Inv-loop μ-loop
+element-set-from-t c = omega arith
 
 add-p : tie.Need-add-p Inv-loop μ-loop
 add-p c = omega arith
@@ -110,8 +110,8 @@ all-terms-spec =
     mul-v
     element-copy-out-v
     terms-of-requires
-    mul-of
-    array-set-from-of
+    mul-t
+    element-set-from-t
     add-p
     loop-less
     loop-again
