@@ -41,8 +41,7 @@ control-for-requires c κs = search needs
 loop-holds : tie.Need-loop-holds Inv-loop μ-loop
 loop-holds c =
     let n = c .before .with-terms .ensures in
-    let v = c .before .before .row-volumes .ensures in
-    (
+    let v = c .before .before .row-volumes .ensures in (
       filled-none 6 noTerms zeroTerms _,
       zero-le,
       (λ b. (agrees-as 6 noVolumes (λ p q. volumes-whole _ _ (n .2 b .2) p) (listed-agrees (v .0)), v .1)),
