@@ -15,6 +15,7 @@ unfoldable pub share : ℕ → ℕ → ℕ
 share part zero = one
 share part (suc rest) = rounded (part * one) (suc rest)
 
+-- A part over a whole.
 abbrev pub ratio : ℕ → ℕ → Ratio
 ratio part whole = record { part = part; whole = whole }
 

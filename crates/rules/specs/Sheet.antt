@@ -97,6 +97,7 @@ statedOf s at =
       k10 = bigEndian 4 s (at + 38);
     }
 
+-- From a place on, by a step.
 abbrev pub series : ℕ → ℕ → Series
 series start step = record { start = start; step = step }
 
