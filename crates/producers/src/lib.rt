@@ -170,16 +170,6 @@ fn with_terms(s: &[u8], layout: Layout) -> u8
     }
 }
 
-// The month's control days, where some producer has terms.
-fn control_for(h: Header, n: u8) -> ControlDays
-    ensures { λ r. ⌜ (0 < n → r .on ≡ listed (controlDay h) 31) ⌝ }
-{
-    if n == 0 {
-        return ControlDays { on: [false; 31] };
-    }
-    control_days(h)
-}
-
 // The excess and the coefficients of six producers, before the first row.
 pub fn all_terms(s: &[u8], layout: Layout) -> AllTerms
     ensures { λ r. ⌜ r .of ≡ listed (termsOf layout (now (s .entry))) 6 ⌝ }
@@ -191,7 +181,7 @@ pub fn all_terms(s: &[u8], layout: Layout) -> AllTerms
     let mut all = AllTerms { of: [none; 6] };
     let volumes = row_volumes(s, layout);
     let n = with_terms(s, layout);
-    let control = control_for(layout.header, n);
+    let control = control_days(layout.header);
     let mut p: u8 = 0;
     while p < n {
         let i = p as usize;

@@ -24,7 +24,7 @@ Inv-loop s layout all₀ volumes n control p₀ all p =
     × (n ≡ withTerms layout s)
     × (n ≤ 6)
     × (0 < n → (layout .header .days ≤ 31) × (n ≤ layout .header .producers) × (sheetLength layout ≤ length s))
-    × (0 < n → control .on ≡ listed (controlDay (layout .header)) 31)
+    × (control .on ≡ listed (controlDay (layout .header)) 31)
 
 abbrev μ-loop : tie.MeasureT-loop
 μ-loop s layout all₀ volumes n control p₀ all p = n - p
@@ -35,8 +35,8 @@ row-volumes-requires c κs = search needs
 with-terms-requires : tie.Need-with-terms-requires Inv-loop μ-loop
 with-terms-requires c κs = search needs
 
-control-for-requires : tie.Need-control-for-requires Inv-loop μ-loop
-control-for-requires c κs = search needs
+control-days-requires : tie.Need-control-days-requires Inv-loop μ-loop
+control-days-requires c κs = search needs
 
 loop-holds : tie.Need-loop-holds Inv-loop μ-loop
 loop-holds c =
@@ -48,7 +48,7 @@ loop-holds c =
       n .0,
       n .1,
       n .2,
-      c .control-for .ensures,
+      c .control-days .ensures,
     )
 
 cast-i : tie.Need-cast-i Inv-loop μ-loop
@@ -68,7 +68,7 @@ terms-of-requires c κs =
     let p : c .before .before .loop .p < 6 = omega arith in
     let h = c .before .before .before .before .before .before .before .args .layout in (
       (some .0, le-trans (hours-inside h (c .before .before .loop .p) (omega (arith, some .1))) (some .2)),
-      ((volumes .0 .each _ p, volumes .1 _ p), inv .6 (omega arith)),
+      ((volumes .0 .each _ p, volumes .1 _ p), inv .6),
     )
 
 mul-t : tie.Need-mul-t Inv-loop μ-loop
@@ -103,7 +103,7 @@ all-terms-spec =
     μ-loop
     row-volumes-requires
     with-terms-requires
-    control-for-requires
+    control-days-requires
     loop-holds
     cast-i
     mul-v
