@@ -12,6 +12,12 @@ uses
 { The marks of an accepted sheet, each once, parted by one space. }
 function MarksText(const Sheet: TSheet; const Settlement: TSettlement): string;
 
+{ The mark of a refusal: `N` and the number. }
+function RefusalMark(Refusal: Integer): string;
+
+{ Adds a mark to a line that does not have it yet. }
+procedure AddMark(var Line: string; const Mark: string);
+
 implementation
 
 const
@@ -24,6 +30,11 @@ const
 function NumberText(Value: Int64): string;
 begin
   Str(Value, Result);
+end;
+
+function RefusalMark(Refusal: Integer): string;
+begin
+  Result := 'N' + NumberText(Refusal);
 end;
 
 procedure AddMark(var Line: string; const Mark: string);

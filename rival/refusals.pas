@@ -11,12 +11,17 @@ uses
 
 const
   NotRefused = 0;
+  LastSheetNumber = 12; { higher numbers are those of entries added later }
+  TopCapacity = 100000; { tenths of a megawatt }
 
 { Numbers 1 to 6, which need the header and the count of bytes handed over. }
 function RefusalByHeader(const Header: THeader; BytesHandedOver: Int64): Integer;
 
 { Numbers 7 to 12, for a sheet that passed 1 to 6 and has been read whole. }
 function RefusalByBody(const Sheet: TSheet; BufferLength: Int64): Integer;
+
+{ The same without 7, for an entry that has no result buffer: numbers 8 to 12. }
+function RefusalByFigures(const Sheet: TSheet): Integer;
 
 implementation
 
@@ -27,7 +32,6 @@ const
   TheVersion = 1;
   FewestDays = 28;
   TopCoefficient = 1000000;
-  TopCapacity = 100000;
   TopPrice = 200000000;
   LowestZ = 10;
   TopZ = 100;
@@ -160,15 +164,20 @@ begin
   Result := False;
 end;
 
-function RefusalByBody(const Sheet: TSheet; BufferLength: Int64): Integer;
+function RefusalByFigures(const Sheet: TSheet): Integer;
 begin
-  if BufferLength < ResultLength(Sheet.Header) then Exit(7);
   if CountsOrCoefficientsTooHigh(Sheet) then Exit(8);
   if SomeCapacityTooHigh(Sheet) then Exit(9);
   if SomeReferenceIsWrong(Sheet) then Exit(10);
   if SomePriceTooHigh(Sheet) then Exit(11);
   if SomeMiningDaysOrZWrong(Sheet) then Exit(12);
   Result := NotRefused;
+end;
+
+function RefusalByBody(const Sheet: TSheet; BufferLength: Int64): Integer;
+begin
+  if BufferLength < ResultLength(Sheet.Header) then Exit(7);
+  Result := RefusalByFigures(Sheet);
 end;
 
 end.

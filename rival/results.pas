@@ -13,6 +13,10 @@ function ResultLength(const Header: THeader): Int64;
 
 function ResultBytes(const Sheet: TSheet; const Settlement: TSettlement): TByteSequence;
 
+{ Writes a figure in Width bytes, highest byte first, and moves the place on. A
+  figure too large for its width would be a range error. }
+procedure Put(var Bytes: TByteSequence; var Place: Integer; Width: Integer; Figure: QWord);
+
 implementation
 
 const
@@ -27,8 +31,6 @@ begin
     + ConsumerResultWidth * Int64(Header.ConsumerCount);
 end;
 
-{ Writes a figure in Width bytes, highest byte first, and moves the place on. A
-  figure too large for its width would be a range error. }
 procedure Put(var Bytes: TByteSequence; var Place: Integer; Width: Integer; Figure: QWord);
 var
   Number: Integer;

@@ -1,11 +1,12 @@
-{ The rival: a second reading of document 01, to compare a proved program with.
-  See README.md for its commands. }
+{ The rival: a second reading of document 01 and of request 1 of document 02, to
+  compare a proved program with. See README.md for its commands. }
 program rival;
 
 {$mode objfpc}{$H+}{$R+}{$Q+}
 
 uses
-  SysUtils, sheets, refusals, settlements, results, listings, traces, marks, bytefiles;
+  SysUtils, sheets, refusals, settlements, results, transfers, listings, traces, marks,
+  transfermarks, bytefiles;
 
 const
   MostBytesListed = 65536;    { section Listing: what is handed over of a longer input }
@@ -20,21 +21,43 @@ const
   StatusWrongUse = 2;
 
 var
-  { One sheet and its settlement at a time. }
+  { One sheet at a time, with its settlement or with a list and what came of it. }
   Sheet: TSheet;
   Settlement: TSettlement;
+  List: TTransferList;
+  Transferred: TTransferOutcome;
+
+{ Tries the numbers 1 to 6 and, when none applies, reads the sheet into the records. }
+function ReadSheet(const Bytes: TByteSequence): Integer;
+begin
+  ReadHeader(Bytes, Sheet.Header);
+  Result := RefusalByHeader(Sheet.Header, Length(Bytes));
+  if Result = NotRefused then ReadBody(Bytes, Sheet);
+end;
 
 { Reads the sheet into the records, refuses it or settles it. Gives the refusal's
   number, or NotRefused when the settlement is there. }
 function AnswerTo(const Bytes: TByteSequence; BufferLength: Int64): Integer;
 begin
-  ReadHeader(Bytes, Sheet.Header);
-  Result := RefusalByHeader(Sheet.Header, Length(Bytes));
+  Result := ReadSheet(Bytes);
   if Result <> NotRefused then Exit;
-  ReadBody(Bytes, Sheet);
   Result := RefusalByBody(Sheet, BufferLength);
   if Result <> NotRefused then Exit;
   Settle(Sheet, Settlement);
+end;
+
+{ The same for a sheet with a list of transfers. There is no result buffer, so the
+  numbers are 1 to 12 save 7, and then the list's, 13 to 15. The records of the
+  sheet stay as they were before the list. }
+function AnswerToTransfers(const Bytes, ListBytes: TByteSequence): Integer;
+begin
+  Result := ReadSheet(Bytes);
+  if Result <> NotRefused then Exit;
+  Result := RefusalByFigures(Sheet);
+  if Result <> NotRefused then Exit;
+  ReadTransferList(ListBytes, List);
+  ApplyTransfers(Sheet, List, Transferred);
+  Result := Transferred.Refusal;
 end;
 
 function FileBytes(const Name: string; Limit: Int64): TByteSequence;
@@ -78,22 +101,36 @@ begin
     WriteTrace(Output, Sheet, Settlement);
 end;
 
+procedure PrintBytes(const Bytes: TByteSequence);
+var
+  Number: Integer;
+begin
+  Write('bytes ', Length(Bytes), ' ');
+  for Number := 0 to High(Bytes) do
+    Write(LowerCase(HexStr(Bytes[Number], 2)));
+  WriteLn;
+end;
+
 procedure SettleSheet(const Bytes: TByteSequence; BufferLength: Int64);
 var
-  Refusal, Number: Integer;
-  Outcome: TByteSequence;
+  Refusal: Integer;
 begin
   Refusal := AnswerTo(Bytes, BufferLength);
   if Refusal <> NotRefused then
-  begin
-    WriteLn('refusal ', Refusal);
-    Exit;
-  end;
-  Outcome := ResultBytes(Sheet, Settlement);
-  Write('bytes ', Length(Outcome), ' ');
-  for Number := 0 to High(Outcome) do
-    Write(LowerCase(HexStr(Outcome[Number], 2)));
-  WriteLn;
+    WriteLn('refusal ', Refusal)
+  else
+    PrintBytes(ResultBytes(Sheet, Settlement));
+end;
+
+procedure TransferInSheet(const Bytes, ListBytes: TByteSequence);
+var
+  Refusal: Integer;
+begin
+  Refusal := AnswerToTransfers(Bytes, ListBytes);
+  if Refusal <> NotRefused then
+    WriteLn('refusal ', Refusal)
+  else
+    PrintBytes(SheetBytesAfter(Bytes, Sheet.Header, Transferred));
 end;
 
 { --------------------------------------------------------------- many sheets }
@@ -114,11 +151,18 @@ begin
     + Int64(Bytes[Place + 2]) * 256 + Bytes[Place + 3];
 end;
 
+{ A part of a case, which must be there whole. }
+function PartOfCase(var Source: file; PartLength: Int64): TByteSequence;
+begin
+  Result := ReadUpTo(Source, PartLength);
+  if Length(Result) < PartLength then
+    raise EFileTrouble.Create('the last case of the file is not whole');
+end;
+
 { The next case of a file of cases; False at its end. }
 function NextCase(var Source: file; out Bytes: TByteSequence; out BufferLength: Int64): Boolean;
 var
   Front: TByteSequence;
-  SheetBytes: Int64;
 begin
   Bytes := nil;
   BufferLength := 0;
@@ -126,52 +170,69 @@ begin
   if Length(Front) = 0 then Exit(False);
   if Length(Front) < 8 then
     raise EFileTrouble.Create('the last case of the file is not whole');
-  SheetBytes := FigureAt(Front, 0);
   BufferLength := FigureAt(Front, 4);
-  Bytes := ReadUpTo(Source, SheetBytes);
-  if Length(Bytes) < SheetBytes then
-    raise EFileTrouble.Create('the last case of the file is not whole');
+  Bytes := PartOfCase(Source, FigureAt(Front, 0));
   Result := True;
 end;
 
-procedure WriteAnswer(var Target: file; Refusal: Integer);
+{ A case with a list: where the other has the buffer's length stands the list's, and
+  the list follows the sheet. }
+function NextTransferCase(var Source: file; out Bytes, ListBytes: TByteSequence): Boolean;
 var
-  Kind, Outcome: TByteSequence;
+  ListLength: Int64;
 begin
-  Kind := nil;
-  SetLength(Kind, 1);
-  if Refusal <> NotRefused then
-  begin
-    Kind[0] := KindRefusal;
-    WriteBytes(Target, Concat(Kind, FourBytes(Refusal)));
-  end
-  else
-  begin
-    Kind[0] := KindBytes;
-    Outcome := ResultBytes(Sheet, Settlement);
-    WriteBytes(Target, Concat(Kind, FourBytes(Length(Outcome)), Outcome));
-  end;
+  ListBytes := nil;
+  Result := NextCase(Source, Bytes, ListLength);
+  if Result then ListBytes := PartOfCase(Source, ListLength);
 end;
 
-procedure WriteMarks(var Target: file; Refusal: Integer);
+procedure WriteAnswer(var Target: file; Kind: Byte; Figure: Int64; const Bytes: TByteSequence);
 var
-  Line: string;
+  Front: TByteSequence;
+begin
+  Front := nil;
+  SetLength(Front, 1);
+  Front[0] := Kind;
+  WriteBytes(Target, Concat(Front, FourBytes(Figure), Bytes));
+end;
+
+procedure WriteRefusalAnswer(var Target: file; Refusal: Integer);
+begin
+  WriteAnswer(Target, KindRefusal, Refusal, nil);
+end;
+
+procedure WriteBytesAnswer(var Target: file; const Bytes: TByteSequence);
+begin
+  WriteAnswer(Target, KindBytes, Length(Bytes), Bytes);
+end;
+
+procedure WriteLine(var Target: file; const Line: string);
+var
   Bytes: TByteSequence;
   Number: Integer;
 begin
-  if Refusal <> NotRefused then
-  begin
-    Str(Refusal, Line);
-    Line := 'N' + Line;
-  end
-  else
-    Line := MarksText(Sheet, Settlement);
-  Line := Line + #10;
   Bytes := nil;
-  SetLength(Bytes, Length(Line));
+  SetLength(Bytes, Length(Line) + 1);
   for Number := 1 to Length(Line) do
     Bytes[Number - 1] := Ord(Line[Number]);
+  Bytes[Length(Line)] := 10;
   WriteBytes(Target, Bytes);
+end;
+
+function SheetMarks(Refusal: Integer): string;
+begin
+  if Refusal <> NotRefused then
+    Result := RefusalMark(Refusal)
+  else
+    Result := MarksText(Sheet, Settlement);
+end;
+
+function TransferMarks(Refusal: Integer): string;
+begin
+  if (Refusal <> NotRefused) and (Refusal <= LastSheetNumber) then
+    Result := RefusalMark(Refusal)
+  else
+    Result := TransferMarksText(Sheet, List, Transferred);
 end;
 
 procedure AnswerCases(const InName, OutName: string; OnlyMarks: Boolean);
@@ -187,9 +248,33 @@ begin
   begin
     Refusal := AnswerTo(Bytes, BufferLength);
     if OnlyMarks then
-      WriteMarks(Target, Refusal)
+      WriteLine(Target, SheetMarks(Refusal))
+    else if Refusal <> NotRefused then
+      WriteRefusalAnswer(Target, Refusal)
     else
-      WriteAnswer(Target, Refusal);
+      WriteBytesAnswer(Target, ResultBytes(Sheet, Settlement));
+  end;
+  CloseAfterWriting(Target);
+  Close(Source);
+end;
+
+procedure AnswerTransferCases(const InName, OutName: string; OnlyMarks: Boolean);
+var
+  Source, Target: file;
+  Bytes, ListBytes: TByteSequence;
+  Refusal: Integer;
+begin
+  OpenForReading(Source, InName);
+  OpenForWriting(Target, OutName);
+  while NextTransferCase(Source, Bytes, ListBytes) do
+  begin
+    Refusal := AnswerToTransfers(Bytes, ListBytes);
+    if OnlyMarks then
+      WriteLine(Target, TransferMarks(Refusal))
+    else if Refusal <> NotRefused then
+      WriteRefusalAnswer(Target, Refusal)
+    else
+      WriteBytesAnswer(Target, SheetBytesAfter(Bytes, Sheet.Header, Transferred));
   end;
   CloseAfterWriting(Target);
   Close(Source);
@@ -204,6 +289,9 @@ begin
   WriteLn(StdErr, '       rival trace FILE           the figures in between');
   WriteLn(StdErr, '       rival batch IN OUT         the results of many sheets');
   WriteLn(StdErr, '       rival marks IN OUT         the corners many sheets reach');
+  WriteLn(StdErr, '       rival transfer SHEET LIST  the changed sheet''s bytes in hex');
+  WriteLn(StdErr, '       rival transfers IN OUT     the changed sheets of many cases');
+  WriteLn(StdErr, '       rival transfermarks IN OUT the corners many lists reach');
   Halt(StatusWrongUse);
 end;
 
@@ -245,6 +333,12 @@ begin
     AnswerCases(ParamStr(2), ParamStr(3), False)
   else if (Command = 'marks') and (ParamCount = 3) then
     AnswerCases(ParamStr(2), ParamStr(3), True)
+  else if (Command = 'transfer') and (ParamCount = 3) then
+    TransferInSheet(FileBytes(ParamStr(2), NoLimit), FileBytes(ParamStr(3), NoLimit))
+  else if (Command = 'transfers') and (ParamCount = 3) then
+    AnswerTransferCases(ParamStr(2), ParamStr(3), False)
+  else if (Command = 'transfermarks') and (ParamCount = 3) then
+    AnswerTransferCases(ParamStr(2), ParamStr(3), True)
   else
     WrongUse;
 end;

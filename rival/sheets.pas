@@ -83,7 +83,15 @@ function HoursInMonth(const Header: THeader): Int64;
 { The length that the header's counts and days ask for. }
 function LengthAskedFor(const Header: THeader): Int64;
 
+{ Where a consumer's record begins. The consumers stand last in the sheet. }
+function ConsumerPlace(const Header: THeader; Number: Integer): Int64;
+
 function IsSupportRow(const Row: TRow): Boolean;
+
+{ The readers take a field, highest byte first, and move the place on. }
+function NextOne(const Bytes: TByteSequence; var Place: Integer): Byte;
+function NextTwo(const Bytes: TByteSequence; var Place: Integer): Word;
+function NextFour(const Bytes: TByteSequence; var Place: Integer): LongWord;
 
 { With fewer than 14 bytes there is no header, and all its fields are 0. }
 procedure ReadHeader(const Bytes: TByteSequence; out Header: THeader);
@@ -108,12 +116,15 @@ begin
     + ConsumerWidth * Int64(Header.ConsumerCount);
 end;
 
+function ConsumerPlace(const Header: THeader; Number: Integer): Int64;
+begin
+  Result := LengthAskedFor(Header) - ConsumerWidth * (Int64(Header.ConsumerCount) - Number);
+end;
+
 function IsSupportRow(const Row: TRow): Boolean;
 begin
   Result := Row.Consumer = SingleBuyer;
 end;
-
-{ The three readers take a field, highest byte first, and move the place on. }
 
 function NextOne(const Bytes: TByteSequence; var Place: Integer): Byte;
 begin

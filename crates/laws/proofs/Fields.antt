@@ -82,7 +82,7 @@ pub holds-right : (s : List ℕ) (at : ℕ) (p q : List ℕ) {k : ℕ} → at + 
 holds-right s at p q e h =
     record { byte = λ i l. rw (← e, add-assoc) (h .byte (length p + i) (rw length-append (omega arith)) ∙ getD-append-add p q i 0) }
 
-read-held : (w : ℕ) (s : List ℕ) (at v : ℕ) → v < 256 ^ w → Holds s at (bytesOf w v) → bigEndian w s at ≡ v
+pub read-held : (w : ℕ) (s : List ℕ) (at v : ℕ) → v < 256 ^ w → Holds s at (bytesOf w v) → bigEndian w s at ≡ v
 read-held w s at v b h =
     same-bytes w s (bytesOf w v ++ []) at 0 (λ i l. h .byte i (inside i l) ∙ sym (rw zero-add (List·getD-append (bytesOf w v) [] 0 i (inside i l))))
     ∙ read-written w v [] b

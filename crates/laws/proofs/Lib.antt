@@ -7,7 +7,9 @@ pub mod Coefficients
 pub mod Rows
 pub mod Consumers
 pub mod Fields
+pub mod Written
 pub mod Sheet
 pub mod Refusals
+pub mod Transfers
 pub mod Figures
 pub mod ControlHours

@@ -22,6 +22,21 @@ sum-mono f g {n} {n′} e h = rw e (below f g n′ h)
 pub sum-same : (f g : ℕ → ℕ) {n n′ : ℕ} → n ≡ n′ → ((i : ℕ) → i < n′ → f i ≡ g i) → sum f n ≡ sum g n′
 sum-same f g e h = le-antisymm (sum-mono f g e (λ i l. le-of-eq (h i l))) (sum-mono g f (sym e) (λ i l. le-of-eq (sym (h i (rw (sym e) l)))))
 
+-- Two functions that differ at one place below n: their sums differ by what they have there.
+pub sum-one : (f g : ℕ → ℕ) (i n : ℕ) → i < n → ((j : ℕ) → j < n → (j ≡ i → ⊥) → f j ≡ g j) → sum f n + g i ≡ sum g n + f i
+unfolding sum
+sum-one f g i zero l h = absurd (omega arith)
+sum-one f g i (suc n) l h = ⊎-elim last (λ b. earlier (sum-one f g i n b (λ j c. h j (omega arith))) b) (eq-or-lt-of-le (le-of-suc-le-suc l))
+  where
+    last : i ≡ n → sum f n + f n + g i ≡ sum g n + g n + f i
+    last e =
+        let same : sum f n ≡ sum g n = sum-same f g refl (λ (j : ℕ) (b : j < n). h j (omega arith) (λ (q : j ≡ i). omega arith)) in
+        omega (arith, ap f e, ap g e)
+
+    earlier : sum f n + g i ≡ sum g n + f i → i < n → sum f n + f n + g i ≡ sum g n + g n + f i
+    earlier rest b =
+        omega (arith, h n (omega arith) (λ (q : n ≡ i). omega arith))
+
 -- Each at most b, so the sum is at most n × b.
 pub sum-le : (f : ℕ → ℕ) (b n : ℕ) → ((i : ℕ) → i < n → f i ≤ b) → sum f n ≤ n * b
 unfolding sum

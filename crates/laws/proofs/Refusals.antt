@@ -87,11 +87,11 @@ all-clear [] c = refl
 all-clear (t ∷ ts) c = rw (c .0) (all-clear ts (c .1))
 
 -- Each of a list of tests fails.
-abbrev Fail : List Bool → Type 0
+abbrev pub Fail : List Bool → Type 0
 Fail [] = Unit {0}
 Fail (b ∷ bs) = (b ≡ false) × Fail bs
 
-none-of : (bs : List Bool) → oneOf bs ≡ false → Fail bs
+pub none-of : (bs : List Bool) → oneOf bs ≡ false → Fail bs
 unfolding oneOf
 none-of [] e = tt
 none-of (b ∷ bs) e = (or-left b (oneOf bs) e, none-of bs (or-right b (oneOf bs) e))

@@ -1,7 +1,7 @@
 -- Fields: unsigned and big-endian, one definition for every width. [Units and the sheet]
 use Prim.Native.Nat.{ℕ, zero, suc, _+_, _*_, _/_, _%_}
 use mathlib.Core.List.{List, [], _∷_, _++_}
-use lib.ListN.{length, getD, drop}
+use lib.ListN.{length, getD, take, drop}
 
 -- The number in the w bytes of s from place at; a byte past the end counts as 0.
 unfoldable pub bigEndian : ℕ → List ℕ → ℕ → ℕ
@@ -39,3 +39,7 @@ joined f (suc n) = joined f n ++ f n
 -- A buffer's bytes after p was written from its beginning: those past p are what they were.
 unfoldable pub over : List ℕ → List ℕ → List ℕ
 over p buffer = p ++ drop (length p) buffer
+
+-- After p was written from a place on: all other bytes are what they were.
+unfoldable pub overAt : ℕ → List ℕ → List ℕ → List ℕ
+overAt at p buffer = take at buffer ++ over p (drop at buffer)

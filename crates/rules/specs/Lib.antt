@@ -15,6 +15,8 @@ pub mod Refusals
 pub mod Limits
 pub mod Outcome
 pub mod Said
+pub mod TransferList
+pub mod Transfers
 pub mod Samples
 pub mod Open
 pub mod CheckedMonths
@@ -22,3 +24,4 @@ pub mod Slips
 pub mod ListingCase
 pub mod RefusalCases
 pub mod PlaceCases
+pub mod TransferCases

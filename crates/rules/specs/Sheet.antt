@@ -1,8 +1,8 @@
 -- The sheet: where each figure of a month stands. No other definition knows a place in the sheet. [Units and the sheet, throughout]
-use Prim.Native.Nat.{ℕ, _+_, _*_}
+use Prim.Native.Nat.{ℕ, zero, suc, _+_, _*_}
 use mathlib.Core.List.{List}
 use Rattle.rules.specs.Month.{Header, Producer, Row, Consumer, Month}
-use Rattle.rules.specs.Fields.{bigEndian}
+use Rattle.rules.specs.Fields.{bigEndian, bytesOf, overAt}
 -- The version and the header: the struct Layout of src/lib.rt. Widths and places go by it, and nothing else does.
 pub use Rattle.rules.specs.declared.Layout.{Layout}
 -- A producer's stated figures, a series of powers, and the series of its hours: the structs Stated, Series and HourSeries of src/lib.rt.
@@ -168,3 +168,9 @@ monthUnder l s =
 -- The month that a sheet states.
 abbrev pub monthOf : List ℕ → Month
 monthOf s = monthUnder (layoutOf s) s
+
+-- The sheet after contract volumes v 0, .., v (n - 1) were written for its first n consumers: a consumer's contract volume is its first
+-- field. [Requests, 1]
+unfoldable pub withContracts : Layout → (ℕ → ℕ) → ℕ → List ℕ → List ℕ
+withContracts l v zero s = s
+withContracts l v (suc n) s = overAt (consumerAt l n) (bytesOf 4 (v n)) (withContracts l v n s)

@@ -69,6 +69,15 @@ pub struct Consumer {
     pub price: u32,
 }
 
+// An entry of a list of transfers: the day of the month before on which it was filed, the consumer that gives, the consumer that takes,
+// the amount in tenths of a megawatt.
+pub struct Transfer {
+    pub day: u8,
+    pub giver: u8,
+    pub taker: u8,
+    pub amount: u32,
+}
+
 // A row of a band table: an excess of up to `edge` thousandths has the factor `factor`, in tenths.
 pub struct Band {
     pub edge: u32,
@@ -81,7 +90,7 @@ pub struct Ratio {
     pub whole: u64,
 }
 
-// What an entry answers: a refusal with its number, or the count of bytes written.
+// What an entry answers: a refusal with its number, or the count of bytes written into a result.
 pub enum Answer {
     Refused(u8),
     Written(usize),
