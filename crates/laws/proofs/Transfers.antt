@@ -1,24 +1,22 @@
 -- Transfers: what a list keeps to that is not refused, and what its entries do to contract volumes. Assumes nothing.
-use mathlib.Core.Path.{_≡_, refl, sym, ap, _∙_}
-use mathlib.Core.Bool.{Bool, true, false, cond, not}
-use mathlib.Core.List.{List, [], _∷_, _++_}
-use Prim.Native.Nat.{ℕ, zero, suc, _+_, _-_, _*_, _/_, _%_, _≤_, _<_}
+use mathlib.Core.Path.{_≡_, refl, sym, _∙_}
+use mathlib.Core.Bool.{Bool, true, false, cond}
+use mathlib.Core.List.{List}
+use Prim.Native.Nat.{ℕ, zero, suc, _+_, _-_, _≤_, _<_}
+use native.Mathlib.Numerals.{add-one}
 use native.Mathlib.Omega.{arith}
 use borrow.Author.Tests.{ltb-false, leb-false, eqb-true, eqb-false, ne-eqb, eq-eqb}
-use lib.Dec.{T, ltb, leb, eqb}
-use lib.ListN.{length}
+use lib.Dec.{T, eqb}
 use Rattle.rules.specs.declared.Transfer.{Transfer}
 use Rattle.rules.specs.Range.{sum, any}
 use Rattle.rules.specs.Units.{tenthsCeiling}
-use Rattle.rules.specs.Month.{Month}
 use Rattle.rules.specs.Limits.{FormLimits, MonthLimits}
-use Rattle.rules.specs.Sheet.{monthOf}
+use Rattle.rules.specs.Sheet.{headerOf, monthOf}
 use Rattle.rules.specs.Refusals.{oneOf, frontTests, headerTests, formTests, figureTests, sheetTests, firstOf, applies}
-use Rattle.rules.specs.Outcome.{Accepted}
-use Rattle.rules.specs.TransferList.{listFront, entryWidth, listLength, listVersion, entries, entry}
-use Rattle.rules.specs.Transfers.{badEntry, badFront, late, moved, afterEntries, overdrawn, overdrawnAt, contracts, listTests, transferTests, transferRefusal, volumesAfter}
-use Rattle.laws.proofs.Range.{any-clear, any-same, sum-one, sum-same}
-use Rattle.laws.proofs.Refusals.{numbered, none-applies, first-both, none-of, not-true, high-clear, form-numbered, form-limits, month-limits}
+use Rattle.rules.specs.TransferList.{entries, entry}
+use Rattle.rules.specs.Transfers.{badEntry, moved, afterEntries, overdrawn, overdrawnAt, contracts, listTests, turnTests, transferTests, transferRefusal}
+use Rattle.laws.proofs.Range.{any-clear, any-same, sum-one}
+use Rattle.laws.proofs.Refusals.{numbered, none-applies, first-both, none-of, high-clear, form-numbered, form-limits, month-limits}
 
 -- An entry that 13 lets pass, among so many consumers.
 pub record Named (consumers : ℕ) (t : Transfer) : Type 0 where
@@ -37,7 +35,7 @@ pub met : (v : ℕ → ℕ) (t : Transfer) → overdrawn v t ≡ false → (t .a
 unfolding overdrawn
 met v t e = let a = none-of _ e in (ltb-false _ _ (a .0), high-clear _ (a .1 .0))
 
--- What an entry leaves of its giver, of its taker and of another consumer.
+-- What an entry leaves of its giver and of its taker.
 module _ (v : ℕ → ℕ) (t : Transfer) where
   pub giver-moved : moved v t (t .giver) ≡ v (t .giver) - t .amount
   unfolding moved
@@ -47,9 +45,21 @@ module _ (v : ℕ → ℕ) (t : Transfer) where
   unfolding moved
   taker-moved n = rw (ne-eqb (t .taker) (t .giver) (λ e. n (sym e)), eq-eqb (t .taker) (t .taker) refl)
 
-  pub other-moved : (c : ℕ) → (c ≡ t .giver → ⊥) → (c ≡ t .taker → ⊥) → moved v t c ≡ v c
-  unfolding moved
-  other-moved c g k = rw (ne-eqb c (t .giver) g, ne-eqb c (t .taker) k)
+  -- The volumes once the giver has given: only the taker's differs from what the entry leaves.
+  pub given : ℕ → ℕ
+  given c = cond (eqb c (t .giver)) (v c - t .amount) (v c)
+
+  pub given-giver : given (t .giver) ≡ v (t .giver) - t .amount
+  unfolding given
+  given-giver = rw (eq-eqb (t .giver) (t .giver) refl)
+
+  pub given-other : (c : ℕ) → (c ≡ t .giver → ⊥) → given c ≡ v c
+  unfolding given
+  given-other c g = rw (ne-eqb c (t .giver) g)
+
+  pub moved-given : (c : ℕ) → (c ≡ t .taker → ⊥) → moved v t c ≡ given c
+  unfolding moved given
+  moved-given c o = rw (ne-eqb c (t .taker) o)
 
 -- The same volumes below a count, as far as an entry that names consumers below it can tell.
 module _ (v w : ℕ → ℕ) (n : ℕ) (same : (c : ℕ) → c < n → v c ≡ w c) (t : Transfer) where
@@ -63,28 +73,12 @@ module _ (v w : ℕ → ℕ) (n : ℕ) (same : (c : ℕ) → c < n → v c ≡ w
 
 -- An entry that is met keeps the sum of the first n volumes, and each below the ceiling.
 module _ (v : ℕ → ℕ) (n : ℕ) (t : Transfer) (k : Named n t) (fair : overdrawn v t ≡ false) where
-  given : ℕ → ℕ
-  given c = cond (eqb c (t .giver)) (v c - t .amount) (v c)
-
-  given-giver : given (t .giver) ≡ v (t .giver) - t .amount
-  unfolding given
-  given-giver = rw (eq-eqb (t .giver) (t .giver) refl)
-
-  given-other : (c : ℕ) → (c ≡ t .giver → ⊥) → given c ≡ v c
-  unfolding given
-  given-other c g = rw (ne-eqb c (t .giver) g)
-
-  -- Past the taker, what the giver gave is all that differs.
-  moved-given : (c : ℕ) → (c ≡ t .taker → ⊥) → moved v t c ≡ given c
-  unfolding moved given
-  moved-given c o = rw (ne-eqb c (t .taker) o)
-
   pub sum-moved : sum (moved v t) n ≡ sum v n
   sum-moved =
       let a = met v t fair in
-      let lowered : sum given n + v (t .giver) ≡ sum v n + given (t .giver) = sum-one given v (t .giver) n (k .giver) (λ c b g. given-other c g) in
-      let raised : sum (moved v t) n + given (t .taker) ≡ sum given n + moved v t (t .taker) = sum-one (moved v t) given (t .taker) n (k .taker) (λ c b o. moved-given c o) in
-      omega (arith, a .0, given-giver, given-other (t .taker) (λ e. k .apart (sym e)), taker-moved v t (k .apart))
+      let lowered : sum (given v t) n + v (t .giver) ≡ sum v n + given v t (t .giver) = sum-one (given v t) v (t .giver) n (k .giver) (λ c b g. given-other v t c g) in
+      let raised : sum (moved v t) n + given v t (t .taker) ≡ sum (given v t) n + moved v t (t .taker) = sum-one (moved v t) (given v t) (t .taker) n (k .taker) (λ c b o. moved-given v t c o) in
+      omega (arith, a .0, given-giver v t, given-other v t (t .taker) (λ e. k .apart (sym e)), taker-moved v t (k .apart))
 
   pub moved-within : ((c : ℕ) → c < n → v c ≤ tenthsCeiling) → (c : ℕ) → c < n → moved v t c ≤ tenthsCeiling
   unfolding moved
@@ -95,8 +89,16 @@ module _ (v : ℕ → ℕ) (n : ℕ) (t : Transfer) (k : Named n t) (fair : over
       go false true e = rw (eqb-true c (t .taker) e) (met v t fair .1)
       go false false e = w c l
 
+-- One entry more.
+pub after-more : (v : ℕ → ℕ) (l : List ℕ) (i : ℕ) → afterEntries v l (i + 1) ≡ moved (afterEntries v l i) (entry l i)
+unfolding afterEntries
+after-more v l i = rw add-one
+
 -- A list whose entries all name consumers below a count.
-module _ (l : List ℕ) (n : ℕ) (names : (i : ℕ) → i < entries l → Named n (entry l i)) where
+abbrev pub AllNamed : ℕ → List ℕ → Type 0
+AllNamed n l = (i : ℕ) → i < entries l → Named n (entry l i)
+
+module _ (l : List ℕ) (n : ℕ) (names : AllNamed n l) where
   -- Two months with the same contract volumes.
   module _ (v w : ℕ → ℕ) (same : (c : ℕ) → c < n → v c ≡ w c) where
     pub after-same : (i : ℕ) (c : ℕ) → c < n → afterEntries v l i c ≡ afterEntries w l i c
@@ -125,40 +127,43 @@ module _ (l : List ℕ) (n : ℕ) (names : (i : ℕ) → i < entries l → Named
     after-within w (suc i) b c q =
         moved-within (afterEntries v l i) n (entry l i) (names i (omega arith)) (turn i (omega arith)) (after-within w i (omega arith)) c q
 
--- What a list keeps to that none of 13 to 15 refuses.
-pub record ListLimits (m : Month) (l : List ℕ) : Type 0 where
-  pub whole : badFront l ≡ false
-  pub names : (i : ℕ) → i < entries l → Named (m .header .consumers) (entry l i)
-  pub in-time : (i : ℕ) → i < entries l → late (entry l i) ≡ false
-  pub fair : (i : ℕ) → i < entries l → overdrawnAt (contracts m) l i ≡ false
+-- What a list keeps to that none of 13 to 15 refuses, for a sheet with so many consumers and these contract volumes.
+pub record ListLimits (consumers : ℕ) (v : ℕ → ℕ) (l : List ℕ) : Type 0 where
+  pub names : AllNamed consumers l
+  pub fair : (i : ℕ) → i < entries l → overdrawnAt v l i ≡ false
 
-pub list-numbered : (m : Month) (l : List ℕ) → T (numbered (listTests m l))
+pub list-numbered : (consumers : ℕ) (l : List ℕ) → T (numbered (listTests consumers l))
 unfolding listTests
-list-numbered m l = tt
+list-numbered consumers l = tt
 
-pub list-limits : (m : Month) (l : List ℕ) → firstOf (listTests m l) ≡ 0 → ListLimits m l
+pub names-clear : (consumers : ℕ) (l : List ℕ) → firstOf (listTests consumers l) ≡ 0 → AllNamed consumers l
 unfolding listTests applies
-list-limits m l e =
-    let c : (n : ℕ) → applies n (listTests m l) ≡ false = none-applies (listTests m l) tt e in
-    let c13 = none-of _ (c 13) in
-    record {
-      whole = c13 .0;
-      names = λ i b. entry-named _ _ (any-clear _ _ (c13 .1 .0) i b);
-      in-time = any-clear _ _ (c 14);
-      fair = any-clear _ _ (c 15);
-    }
+names-clear consumers l e i b =
+    entry-named _ _ (any-clear _ _ (none-of _ (none-applies (listTests consumers l) tt e 13) .1 .0) i b)
+
+pub turns-clear : (v : ℕ → ℕ) (l : List ℕ) → firstOf (turnTests v l) ≡ 0 → (i : ℕ) → i < entries l → overdrawnAt v l i ≡ false
+unfolding turnTests applies
+turns-clear v l e = any-clear _ _ (none-applies (turnTests v l) tt e 15)
 
 -- The sheet's own numbers, all but 7.
 pub sheet-numbered : (s : List ℕ) → T (numbered (sheetTests s))
 unfolding sheetTests formTests frontTests headerTests figureTests
 sheet-numbered s = tt
 
-module _ (s l : List ℕ) where
-  -- A list that is applied: the sheet keeps to its limits, and so does the list.
-  pub applied-limits : transferRefusal s l ≡ 0 → (FormLimits s × MonthLimits (monthOf s)) × ListLimits (monthOf s) l
-  unfolding transferRefusal transferTests sheetTests
-  applied-limits e =
-      let both = first-both (sheetTests s) (listTests (monthOf s) l) (sheet-numbered s) e in
-      let parts = first-both (formTests s) (figureTests (monthOf s)) (form-numbered s) (both .0) in
-      let form = form-limits s (parts .0) in
-      ((form, month-limits (monthOf s) (form .header) (parts .1)), list-limits (monthOf s) l (both .1))
+pub sheet-limits : (s : List ℕ) → firstOf (sheetTests s) ≡ 0 → FormLimits s × MonthLimits (monthOf s)
+unfolding sheetTests
+sheet-limits s e =
+    let parts = first-both (formTests s) (figureTests (monthOf s)) (form-numbered s) e in
+    let form = form-limits s (parts .0) in
+    (form, month-limits (monthOf s) (form .header) (parts .1))
+
+-- A list that is applied: the sheet keeps to its limits, and so does the list.
+pub applied-limits : (s l : List ℕ) → transferRefusal s l ≡ 0
+    → (FormLimits s × MonthLimits (monthOf s)) × ListLimits (headerOf s .consumers) (contracts (monthOf s)) l
+unfolding transferRefusal transferTests
+applied-limits s l e =
+    let both = first-both (sheetTests s) _ (sheet-numbered s) e in
+    let rest = first-both (listTests (headerOf s .consumers) l) (turnTests (contracts (monthOf s)) l) (list-numbered (headerOf s .consumers) l) (both .1) in (
+      sheet-limits s (both .0),
+      record { names = names-clear (headerOf s .consumers) l (rest .0); fair = turns-clear (contracts (monthOf s)) l (rest .1) },
+    )

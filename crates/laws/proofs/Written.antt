@@ -5,6 +5,7 @@ use mathlib.Core.List.{List, _++_}
 use mathlib.Core.Logic.{⊎-elim}
 use Prim.Native.Nat.{ℕ, zero, suc, _+_, _-_, _*_, _^_, _≤_, _<_}
 use native.Mathlib.Nat.{eq-or-lt-of-le, le-of-suc-le-suc}
+use native.Mathlib.Numerals.{add-one}
 use native.Mathlib.Omega.{arith}
 use borrow.Author.Tests.{ltb-true, ltb-false}
 use lib.Dec.{ltb}
@@ -12,7 +13,7 @@ use lib.ListN.{length, getD, take, drop, length-append, length-drop, List·getD-
 use lib.Seq.{getD-take, getD-drop, getD-append-add, length-take-le}
 use Rattle.rules.specs.declared.Layout.{Layout}
 use Rattle.rules.specs.Fields.{bigEndian, bytesOf, over, overAt}
-use Rattle.rules.specs.Sheet.{consumerAt, withContracts}
+use Rattle.rules.specs.Sheet.{consumerAt, contractAt, withContracts}
 use Rattle.laws.proofs.Fields.{length-bytesOf, same-bytes, Holds, read-held}
 
 -- p written from a place on, where it fits.
@@ -52,12 +53,12 @@ module _ (at : ℕ) (p s : List ℕ) (fits : at + length p ≤ length s) where
 
 -- A byte of the sheet stands outside the contract volumes of the first n consumers.
 abbrev pub Outside : Layout → ℕ → ℕ → Type 0
-Outside l n i = (c : ℕ) → c < n → consumerAt l c ≤ i → consumerAt l c + 4 ≤ i
+Outside l n i = (c : ℕ) → c < n → contractAt l c ≤ i → contractAt l c + 4 ≤ i
 
 -- Contract volumes of the first n consumers, of a sheet that has them.
 module _ (l : Layout) (v : ℕ → ℕ) (s : List ℕ) where
   abbrev pub Room : ℕ → Type 0
-  Room n = (c : ℕ) → c < n → consumerAt l c + 4 ≤ length s
+  Room n = (c : ℕ) → c < n → contractAt l c + 4 ≤ length s
 
   fewer : (n : ℕ) → Room (suc n) → Room n
   fewer n r c b = r c (omega arith)
@@ -67,16 +68,16 @@ module _ (l : Layout) (v : ℕ → ℕ) (s : List ℕ) where
   length-contracts zero r = refl
   length-contracts (suc n) r =
       let e : length (withContracts l v n s) ≡ length s = length-contracts n (fewer n r) in
-      length-overAt (consumerAt l n) (bytesOf 4 (v n)) (withContracts l v n s) (rw length-bytesOf (omega (arith, r n (omega arith)))) ∙ e
+      length-overAt (contractAt l n) (bytesOf 4 (v n)) (withContracts l v n s) (rw length-bytesOf (omega (arith, r n (omega arith)))) ∙ e
 
-  fits : (n : ℕ) → Room (suc n) → consumerAt l n + length (bytesOf 4 (v n)) ≤ length (withContracts l v n s)
+  fits : (n : ℕ) → Room (suc n) → contractAt l n + length (bytesOf 4 (v n)) ≤ length (withContracts l v n s)
   fits n r = rw length-bytesOf (omega (arith, r n (omega arith), length-contracts n (fewer n r)))
 
   pub contracts-keep : (n : ℕ) → Room n → (i : ℕ) → Outside l n i → getD (withContracts l v n s) i 0 ≡ getD s i 0
   unfolding withContracts
   contracts-keep zero r i o = refl
   contracts-keep (suc n) r i o =
-      overAt-keeps (consumerAt l n) (bytesOf 4 (v n)) (withContracts l v n s) (fits n r) i (λ b. rw length-bytesOf (o n (omega arith) b))
+      overAt-keeps (contractAt l n) (bytesOf 4 (v n)) (withContracts l v n s) (fits n r) i (λ b. rw length-bytesOf (o n (omega arith) b))
       ∙ contracts-keep n (fewer n r) i (λ c b. o c (omega arith))
 
   -- A field that no contract volume touches is kept.
@@ -85,27 +86,39 @@ module _ (l : Layout) (v : ℕ → ℕ) (s : List ℕ) where
   field-kept n r w at o = same-bytes w (withContracts l v n s) s at at (λ i b. contracts-keep n r (at + i) (o i b))
 
   -- The last contract volume is read where it was written, and leaves the others.
-  own-read : (n : ℕ) → Room (suc n) → v n < 256 ^ 4 → bigEndian 4 (withContracts l v (suc n) s) (consumerAt l n) ≡ v n
+  own-read : (n : ℕ) → Room (suc n) → v n < 256 ^ 4 → bigEndian 4 (withContracts l v (suc n) s) (contractAt l n) ≡ v n
   unfolding withContracts
   own-read n r f =
-      read-held 4 (overAt (consumerAt l n) (bytesOf 4 (v n)) (withContracts l v n s)) (consumerAt l n) (v n) f
-      (overAt-holds (consumerAt l n) (bytesOf 4 (v n)) (withContracts l v n s) (fits n r))
+      read-held 4 (overAt (contractAt l n) (bytesOf 4 (v n)) (withContracts l v n s)) (contractAt l n) (v n) f
+      (overAt-holds (contractAt l n) (bytesOf 4 (v n)) (withContracts l v n s) (fits n r))
 
-  apart : (c n i : ℕ) → c < n → i < 4 → consumerAt l n ≤ consumerAt l c + i → consumerAt l n + 4 ≤ consumerAt l c + i
+  apart : (c n i : ℕ) → c < n → i < 4 → contractAt l n ≤ contractAt l c + i → contractAt l n + 4 ≤ contractAt l c + i
   unfolding consumerAt
   apart c n i b d e = omega arith
 
   other-read : (n : ℕ) → Room (suc n) → (c : ℕ) → c < n
-      → bigEndian 4 (withContracts l v (suc n) s) (consumerAt l c) ≡ bigEndian 4 (withContracts l v n s) (consumerAt l c)
+      → bigEndian 4 (withContracts l v (suc n) s) (contractAt l c) ≡ bigEndian 4 (withContracts l v n s) (contractAt l c)
   unfolding withContracts
   other-read n r c b =
-      same-bytes 4 (overAt (consumerAt l n) (bytesOf 4 (v n)) (withContracts l v n s)) (withContracts l v n s) (consumerAt l c) (consumerAt l c)
-      (λ i d. overAt-keeps (consumerAt l n) (bytesOf 4 (v n)) (withContracts l v n s) (fits n r) (consumerAt l c + i) (λ e. rw length-bytesOf (apart c n i b d e)))
+      same-bytes 4 (overAt (contractAt l n) (bytesOf 4 (v n)) (withContracts l v n s)) (withContracts l v n s) (contractAt l c) (contractAt l c)
+      (λ i d. overAt-keeps (contractAt l n) (bytesOf 4 (v n)) (withContracts l v n s) (fits n r) (contractAt l c + i) (λ e. rw length-bytesOf (apart c n i b d e)))
 
-  pub contract-read : (n : ℕ) → Room n → (c : ℕ) → c < n → v c < 256 ^ 4 → bigEndian 4 (withContracts l v n s) (consumerAt l c) ≡ v c
+  pub contract-read : (n : ℕ) → Room n → (c : ℕ) → c < n → v c < 256 ^ 4 → bigEndian 4 (withContracts l v n s) (contractAt l c) ≡ v c
   contract-read zero r c b f = absurd (omega arith)
   contract-read (suc n) r c b f =
       ⊎-elim
       (λ (q : c ≡ n). rw q (own-read n r (rw q at f)))
       (λ (q : c < n). other-read n r c q ∙ contract-read n (fewer n r) c q f)
       (eq-or-lt-of-le (le-of-suc-le-suc b))
+
+-- One consumer more.
+pub contracts-more : (l : Layout) (v : ℕ → ℕ) (s : List ℕ) (n : ℕ)
+    → withContracts l v (n + 1) s ≡ overAt (contractAt l n) (bytesOf 4 (v n)) (withContracts l v n s)
+unfolding withContracts
+contracts-more l v s n = rw add-one
+
+-- What is written goes by the first n volumes alone.
+pub contracts-same : (l : Layout) (v w : ℕ → ℕ) (s : List ℕ) (n : ℕ) → ((c : ℕ) → c < n → v c ≡ w c) → withContracts l v n s ≡ withContracts l w n s
+unfolding withContracts
+contracts-same l v w s zero e = refl
+contracts-same l v w s (suc n) e = rw (e n (omega arith), contracts-same l v w s n (λ c b. e c (omega arith)))

@@ -14,7 +14,7 @@ use Rattle.rules.specs.Result.{resultLength, rowRecord, consumerRecord, 
 use Rattle.rules.specs.Refusals.{oneOf, badMonth, tooMany, badShare, tooHigh, highHour, highProducer, highRow, highConsumer, badReference, tooDear, badFactor, frontTests, headerTests, formTests, roomTests, figureTests, sheetTests, tests, applies, firstOf, refusal}
 use Rattle.rules.specs.Outcome.{outcome, bufferAfter}
 use Rattle.rules.specs.TransferList.{listLength, listVersion, entries, entry}
-use Rattle.rules.specs.Transfers.{badEntry, badFront, late, moved, afterEntries, overdrawn, overdrawnAt, listTests, transferTests, transferRefusal, transferOutcome, volumesAfter, transferred}
+use Rattle.rules.specs.Transfers.{badEntry, badFront, late, moved, afterEntries, overdrawn, overdrawnAt, listTests, turnTests, transferTests, transferRefusal, transferOutcome, volumesAfter, transferred}
 use Rattle.rules.specs.Samples.{month, wrong}
 
 -- From a month to its totals.
@@ -29,5 +29,5 @@ layout = tt
 
 -- From a sheet and a list of transfers to the sheet afterwards.
 unfoldable pub transfers : Unit {0}
-unfolding listLength listVersion entries entry badEntry badFront late moved afterEntries overdrawn overdrawnAt listTests transferTests transferRefusal transferOutcome volumesAfter transferred
+unfolding listLength listVersion entries entry badEntry badFront late moved afterEntries overdrawn overdrawnAt listTests turnTests transferTests transferRefusal transferOutcome volumesAfter transferred
 transfers = tt

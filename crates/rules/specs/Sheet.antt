@@ -74,6 +74,10 @@ rowAt l j = producerAt l (l .header .producers) + rowWidth l * j
 unfoldable pub consumerAt : Layout → ℕ → ℕ
 consumerAt l c = rowAt l (l .header .rows) + consumerWidth l * c
 
+-- Where consumer c's contract volume stands: it is the first of its figures. [Requests, 1]
+abbrev pub contractAt : Layout → ℕ → ℕ
+contractAt l c = consumerAt l c
+
 -- The length that version, month and counts ask for: the place past the last consumer.
 -- (sheet-length, in laws/Sheet: 14 + P × (42 + 288 × days) + 10 × R + 15 × C.)
 unfoldable pub sheetLength : Layout → ℕ
@@ -169,8 +173,7 @@ monthUnder l s =
 abbrev pub monthOf : List ℕ → Month
 monthOf s = monthUnder (layoutOf s) s
 
--- The sheet after contract volumes v 0, .., v (n - 1) were written for its first n consumers: a consumer's contract volume is its first
--- field. [Requests, 1]
+-- The sheet after contract volumes v 0, .., v (n - 1) were written for its first n consumers. [Requests, 1]
 unfoldable pub withContracts : Layout → (ℕ → ℕ) → ℕ → List ℕ → List ℕ
 withContracts l v zero s = s
-withContracts l v (suc n) s = overAt (consumerAt l n) (bytesOf 4 (v n)) (withContracts l v n s)
+withContracts l v (suc n) s = overAt (contractAt l n) (bytesOf 4 (v n)) (withContracts l v n s)

@@ -1,7 +1,6 @@
 -- The list of transfers: where each figure of it stands. No other definition knows a place in the list. [Requests, 1]
 use Prim.Native.Nat.{ℕ, _+_, _-_, _*_, _/_}
 use mathlib.Core.List.{List}
-use lib.ListN.{length}
 use Rattle.rules.specs.Fields.{bigEndian}
 -- An entry: the struct Transfer of src/lib.rt.
 pub use Rattle.rules.specs.declared.Transfer.{Transfer}
@@ -22,9 +21,9 @@ listLength l = bigEndian 4 l 0
 unfoldable pub listVersion : List ℕ → ℕ
 listVersion l = bigEndian 1 l 4
 
--- How many entries stand whole in the list.
+-- How many entries the length leaves room for.
 unfoldable pub entries : List ℕ → ℕ
-entries l = (length l - listFront) / entryWidth
+entries l = (listLength l - listFront) / entryWidth
 
 -- The entry whose figures begin at a place.
 abbrev pub entryOf : List ℕ → ℕ → Transfer

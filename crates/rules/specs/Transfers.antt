@@ -62,21 +62,24 @@ overdrawn v t = oneOf (ltb (v (t .giver)) (t .amount) ∷ tooHigh (v (t .taker) 
 unfoldable pub overdrawnAt : (ℕ → ℕ) → List ℕ → ℕ → Bool
 overdrawnAt v l i = overdrawn (afterEntries v l i) (entry l i)
 
+-- 13, then 14, each over the whole list, for a sheet with so many consumers.
+unfoldable pub listTests : ℕ → List ℕ → List Test
+listTests consumers l =
+    test 13 (oneOf (badFront l ∷ someEntry l (badEntry consumers) ∷ []))
+    ∷ test 14 (someEntry l late)
+    ∷ []
+
+-- 15, for a sheet with these contract volumes.
+unfoldable pub turnTests : (ℕ → ℕ) → List ℕ → List Test
+turnTests v l = test 15 (any (overdrawnAt v l) (entries l)) ∷ []
+
 -- The contract volumes that a month states.
 abbrev pub contracts : Month → ℕ → ℕ
 contracts m c = m .consumer c .contract
 
--- 13, then 14, then 15, each over the whole list.
-unfoldable pub listTests : Month → List ℕ → List Test
-listTests m l =
-    test 13 (oneOf (badFront l ∷ someEntry l (badEntry (m .header .consumers)) ∷ []))
-    ∷ test 14 (someEntry l late)
-    ∷ test 15 (any (overdrawnAt (contracts m) l) (entries l))
-    ∷ []
-
 -- All numbers in their order: the sheet's own, all but 7, and then the list's.
 unfoldable pub transferTests : List ℕ → List ℕ → List Test
-transferTests s l = sheetTests s ++ listTests (monthOf s) l
+transferTests s l = sheetTests s ++ (listTests (headerOf s .consumers) l ++ turnTests (contracts (monthOf s)) l)
 
 -- The number that a sheet and a list are refused with, 0 where the list is applied.
 unfoldable pub transferRefusal : List ℕ → List ℕ → ℕ

@@ -1,0 +1,103 @@
+-- Which list of tests the first number comes from, and what is answered and left. Assumes nothing.
+use mathlib.Core.Path.{_≡_, sym, ap, _∙_}
+use mathlib.Core.Bool.{Bool, true, false}
+use mathlib.Core.List.{List, _++_}
+use Prim.Native.Nat.{ℕ, _≤_, _<_}
+use native.Mathlib.Nat.{le-of-eq}
+use native.Mathlib.Omega.{arith}
+use borrow.Author.Tests.{eq-eqb, ne-eqb, lt-ltb}
+use lib.ListN.{length, getD}
+use Rattle.rules.specs.declared.Layout.{Layout}
+use Rattle.rules.specs.Range.{any}
+use Rattle.rules.specs.Sheet.{headerOf, layoutOf, monthOf, monthUnder, sheetLength, withContracts}
+use Rattle.rules.specs.Refusals.{sheetTests, firstOf}
+use Rattle.rules.specs.Outcome.{refused, written}
+use Rattle.rules.specs.TransferList.{entries}
+use Rattle.rules.specs.Transfers.{contracts, listTests, turnTests, transferTests, transferRefusal, transferOutcome, transferred, volumesAfter, afterEntries, overdrawnAt}
+use Rattle.laws.proofs.Arrays.{Agrees, getD-listed, length-listed}
+use Rattle.laws.proofs.Refusals.{first-stands, first-next}
+use Rattle.laws.proofs.Written.{contracts-same}
+use Rattle.laws.proofs.Transfers.{Named, AllNamed, list-numbered, names-clear, sheet-numbered, sheet-limits, after-same, turns-same}
+use Rattle.transfers.specs.declared.volumes.Volumes.{Volumes}
+use Rattle.transfers.specs.Held.{held, read}
+
+-- The volumes of the first n consumers are read where they are held.
+held-wide : (n : ℕ) (v : ℕ → ℕ) {x : Volumes} → x ≡ held n v → length (x .of) ≡ 32
+held-wide n v e = rw e (length-listed _ 32)
+
+held-read : (n : ℕ) (v : ℕ → ℕ) {x : Volumes} → x ≡ held n v → n ≤ 32 → (c : ℕ) → c < n → read x c ≡ v c
+held-read n v e few c b = rw e (getD-listed 0 _ 32 c (omega arith) ∙ rw (lt-ltb c n b))
+
+module _ (s l : List ℕ) where
+  -- A refused list: its number, and the sheet as it was.
+  turned-down : {n : ℕ} → n ≡ transferRefusal s l → (n ≡ 0 → ⊥) → (refused n ≡ transferOutcome s l) × (s ≡ transferred s l)
+  unfolding transferOutcome transferred
+  turned-down e p =
+      let q = ne-eqb (transferRefusal s l) 0 (λ z. p (e ∙ z)) in
+      (rw (q, e), rw q)
+
+  -- The sheet's own number.
+  pub own-refused : {n : ℕ} → n ≡ firstOf (sheetTests s) → (n ≡ 0 → ⊥) → (refused n ≡ transferOutcome s l) × (s ≡ transferred s l)
+  own-refused e p =
+      turned-down (e ∙ (unfold transferRefusal transferTests in first-stands (sheetTests s) _ (sheet-numbered s) (λ z. p (e ∙ z)))) p
+
+  -- Where it has none.
+  module _ (own : firstOf (sheetTests s) ≡ 0) {layout : Layout} (el : layout ≡ layoutOf s) where
+    next : firstOf (listTests (layout .header .consumers) l ++ turnTests (contracts (monthOf s)) l) ≡ transferRefusal s l
+    unfolding transferRefusal transferTests
+    next = rw el (first-next (sheetTests s) _ (sheet-numbered s) own)
+
+    -- The sheet is whole, and has few consumers.
+    pub whole : (sheetLength layout ≤ length s) × (layout .header .consumers ≤ 32)
+    whole =
+        let w = sheet-limits s own in
+        rw el (le-of-eq (sym (w .0 .length-right) ∙ w .0 .length-told), w .1 .header .consumers)
+
+    -- 13 or 14.
+    pub list-refused : {n : ℕ} → n ≡ firstOf (listTests (layout .header .consumers) l) → (n ≡ 0 → ⊥)
+        → (refused n ≡ transferOutcome s l) × (s ≡ transferred s l)
+    list-refused e p =
+        turned-down (e ∙ first-stands (listTests (layout .header .consumers) l) _ (list-numbered _ l) (λ z. p (e ∙ z)) ∙ next) p
+
+    -- Where neither applies.
+    module _ (good : firstOf (listTests (layout .header .consumers) l) ≡ 0) where
+      named : AllNamed (layout .header .consumers) l
+      named = names-clear (layout .header .consumers) l good
+
+      turn-number : firstOf (turnTests (contracts (monthOf s)) l) ≡ transferRefusal s l
+      turn-number = first-next (listTests (layout .header .consumers) l) _ (list-numbered _ l) good ∙ next
+
+      -- The volumes that were read.
+      module _ {x : Volumes} (ex : x ≡ held (layout .header .consumers) (contracts (monthUnder layout s))) where
+        pub may-turn : (length (x .of) ≡ 32) × AllNamed 32 l
+        may-turn = (
+          held-wide (layout .header .consumers) (contracts (monthUnder layout s)) ex,
+          λ i b. let k = named i b in record { giver = omega (arith, k .giver, whole .1); taker = omega (arith, k .taker, whole .1); apart = k .apart },
+        )
+
+        same : (c : ℕ) → c < layout .header .consumers → read x c ≡ contracts (monthOf s) c
+        same c b = held-read (layout .header .consumers) (contracts (monthUnder layout s)) ex (whole .1) c b ∙ rw el
+
+        turns : {b : Bool} → b ≡ any (overdrawnAt (read x) l) (entries l) → b ≡ any (overdrawnAt (contracts (monthOf s)) l) (entries l)
+        turns e = e ∙ turns-same l (layout .header .consumers) named (read x) (contracts (monthOf s)) same
+
+        -- 15.
+        pub turn-refused : {b : Bool} → b ≡ any (overdrawnAt (read x) l) (entries l) → b ≡ true → (refused 15 ≡ transferOutcome s l) × (s ≡ transferred s l)
+        turn-refused e y = turned-down (number ∙ turn-number) (λ z. omega (arith, z))
+          where
+            number : 15 ≡ firstOf (turnTests (contracts (monthOf s)) l)
+            number = unfold turnTests firstOf in rw (sym (turns e) ∙ y)
+
+        -- No number applies.
+        module _ {b : Bool} (e : b ≡ any (overdrawnAt (read x) l) (entries l)) (y : b ≡ false) where
+          none : transferRefusal s l ≡ 0
+          none = sym turn-number ∙ (unfold turnTests firstOf in rw (sym (turns e) ∙ y))
+
+          pub applied : {after : Volumes} {t : List ℕ} → Agrees 32 0 (afterEntries (read x) l (entries l)) (after .of)
+              → t ≡ withContracts layout (read after) (layout .header .consumers) s → (written 0 ≡ transferOutcome s l) × (t ≡ transferred s l)
+          unfolding transferOutcome transferred volumesAfter
+          applied {after} a et =
+              let q = eq-eqb (transferRefusal s l) 0 none in
+              let each : (c : ℕ) → c < layout .header .consumers → read after c ≡ afterEntries (contracts (monthOf s)) l (entries l) c =
+              λ c k. a .each c (omega (arith, k, whole .1)) ∙ after-same l (layout .header .consumers) named (read x) (contracts (monthOf s)) same (entries l) c k in
+              (rw q, et ∙ contracts-same layout _ _ s _ each ∙ rw (q, el))
