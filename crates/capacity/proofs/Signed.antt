@@ -15,6 +15,7 @@ use Rattle.rules.specs.Sheet.{headerOf, monthOf}
 use Rattle.rules.specs.Refusals.{refusal}
 use Rattle.rules.specs.Result.{resultLength}
 use Rattle.rules.specs.Outcome.{Outcome, refused, written, outcome}
+use Rattle.rules.specs.Transfers.{transferRefusal, transferOutcome}
 use Rattle.laws.proofs.Refusals.{limits}
 use Rattle.laws.proofs.Figures.{length-le}
 use Rattle.capacity.specs.InC.{inC, counted, countEnd}
@@ -52,6 +53,18 @@ count-le s room = go (eqb (refusal s room) 0) refl
 -- So an entry may hand a settlement's answer over.
 pub count-small : (s : List ℕ) (room : ℕ) {o : Outcome} → o ≡ outcome s room → counted o < countEnd
 count-small s room e = omega (arith, ap counted e, count-le s room)
+
+-- A list of transfers counts no bytes.
+count-none : (s l : List ℕ) → counted (transferOutcome s l) ≡ 0
+unfolding transferOutcome
+count-none s l = go (eqb (transferRefusal s l) 0)
+  where
+    go : (b : Bool) → counted (cond b (written 0) (refused (transferRefusal s l))) ≡ 0
+    go true = refl
+    go false = refl
+
+pub transfer-small : (s l : List ℕ) {o : Outcome} → o ≡ transferOutcome s l → counted o < countEnd
+transfer-small s l e = omega (arith, ap counted e, count-none s l)
 
 -- What an entry gets back is the outcome's number.
 pub handed-on : {z : ℤ} {o p : Outcome} → mag z < countEnd → z ≡ inC o → o ≡ p → toZ w64 (ofZ w64 z) ≡ inC p

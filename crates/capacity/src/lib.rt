@@ -4,9 +4,11 @@ ghost use lib.ListN.{length};
 ghost use Prim.Native.Nat.{_<_};
 ghost use Rattle.rules.specs.Outcome.{outcome, bufferAfter};
 ghost use Rattle.rules.specs.Said.{said};
+ghost use Rattle.rules.specs.Transfers.{transferOutcome, transferred};
 ghost use Rattle.capacity.specs.InC.{inC, counted, countEnd};
 use rules::Answer;
 use settlement::settle;
+use transfers::transfer;
 
 // An answer as one number for C. Every entry that gets an Answer hands it over here.
 fn in_c(answer: Answer) -> i64
@@ -26,4 +28,13 @@ pub extern "C" fn capacity_settle(sheet: &[u8], result: &mut [u8]) -> i64
     ensures buffer { λ r. ⌜ now (result .exit) ≡ bufferAfter (now (sheet .entry)) (now (result .entry)) ⌝ }
 {
     in_c(settle(sheet, result))
+}
+
+// A list of transfers, applied to a sheet: 0, or minus the refusal's number.
+#[no_mangle]
+pub extern "C" fn capacity_transfer(sheet: &mut [u8], list: &[u8]) -> i64
+    ensures { λ r. ⌜ r ≡ inC (transferOutcome (now (sheet .entry)) (now (list .entry))) ⌝ }
+    ensures sheet { λ r. ⌜ now (sheet .exit) ≡ transferred (now (sheet .entry)) (now (list .entry)) ⌝ }
+{
+    in_c(transfer(sheet, list))
 }
