@@ -42,8 +42,7 @@ loop-again : tie.Need-loop-again Inv-loop μ-loop
 loop-again c =
     let a = c .before .before .before .before .before in
     let l = c .before .before .before .loop in
-    let below = c .before .if1 .taken in
-    (
+    let below = c .before .if1 .taken in (
       filled-more 32 0 0 _ (l .c) (omega (arith, below, a .pre .1)) (ap (λ (k : Consumer). k .contract) (c .consumer .ensures ∙ consumer-there (a .args .layout) (a .args .s .now) (l .c) (a .pre .0) below)) (l .inv .0),
       omega (arith, below),
     )
