@@ -39,10 +39,14 @@ same-header s s′ e =
       front-same 14 1 13 s′ s e (omega arith),
     )
 
--- The buffer after an accepted sheet begins with the result.
+-- A buffer begins with what was written over its front; after an accepted sheet that is the result.
+pub over-begins : (p out : List ℕ) {x : List ℕ} → x ≡ over p out → Holds x 0 p
+unfolding over
+over-begins p out e = rw e (holds-front p (drop (length p) out))
+
 pub begins : (s out : List ℕ) → Accepted s (length out) → Holds (bufferAfter s out) 0 (resultOf (monthOf s))
-unfolding bufferAfter over
-begins s out a = rw (eq-eqb _ _ a) (holds-front (resultOf (monthOf s)) (drop (length (resultOf (monthOf s))) out))
+unfolding bufferAfter
+begins s out a = over-begins (resultOf (monthOf s)) out (rw (eq-eqb _ _ a))
 
 -- The last sentence of demand 3.
 pub only-cut : (s out : List ℕ) → Accepted s (length out) → OnlyCut s (bufferAfter s out)
@@ -69,7 +73,7 @@ module _ (m m′ : Month) (e : m′ .header ≡ m .header) (w : MonthLimits m) (
   totals′ : readTotals (m .header) out′ ≡ totalFigures m′
   totals′ = ap (λ (h : Header). readTotals h out′) (sym e) ∙ totals-read m′ w′ out′ b′
 
-  months-no-better : NoBetter (m .header) out out′
+  pub months-no-better : NoBetter (m .header) out out′
   months-no-better =
       record {
         row-actual = λ j l. rw (row′ j l, row-read m w out b j l) (Months.actual-down m m′ e w worse j l);

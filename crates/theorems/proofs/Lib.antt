@@ -7,3 +7,6 @@ pub mod ReadBack
 pub mod Demand1
 pub mod Demand3
 pub mod Demands
+pub mod Alike
+pub mod Transfers
+pub mod Requests

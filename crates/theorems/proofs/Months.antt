@@ -15,7 +15,7 @@ use Rattle.theorems.proofs.Rows as Rows
 use Rattle.theorems.proofs.Consumers as Consumers
 
 module _ (m m′ : Month) (e : m′ .header ≡ m .header) (limits : MonthLimits m) (w : Worse m m′) where
-  own-rows : (p : ℕ) → Rows.SameRowsOf m m′ p
+  pub own-rows : (p : ℕ) → Rows.SameRowsOf m m′ p
   own-rows p = record { owner = λ j l. ap (λ (r : Row). r .producer) (w .row j l); own = λ j l q. w .row j l }
 
   pub actual-down : (j : ℕ) → j < m .header .rows → actual m′ j ≤ actual m j
