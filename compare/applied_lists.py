@@ -72,12 +72,20 @@ class Turns:
         self.volumes[giver] -= amount
         self.volumes[taker] += amount
 
+    def two(self):
+        """A giver and a taker; as a rule, something can be moved between them."""
+        for _ in range(4):
+            giver, taker = self.rng.sample(range(len(self.volumes)), 2)
+            if self.most(giver, taker):
+                break
+        return giver, taker
+
     def add_some(self, count):
         """Entries at will. With fewer than two consumers there are none."""
         if len(self.volumes) < 2:
             return
         for _ in range(count):
-            giver, taker = self.rng.sample(range(len(self.volumes)), 2)
+            giver, taker = self.two()
             most = self.most(giver, taker)
             self.add(giver, taker, self.rng.choice((0, min(1, most), most // 2, most, self.rng.randrange(most + 1))))
 

@@ -33,6 +33,10 @@ class Case(NamedTuple):
     sheet: bytes
     buffer: int
 
+    @property
+    def length(self):
+        return len(self.sheet)
+
     def to_bytes(self):
         return programs.case_bytes(self.sheet, self.buffer)
 

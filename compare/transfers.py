@@ -19,6 +19,10 @@ class ListCase(NamedTuple):
     sheet: bytes
     list: bytes
 
+    @property
+    def length(self):
+        return len(self.sheet) + len(self.list)
+
     def to_bytes(self):
         return programs.list_case_bytes(self.sheet, self.list)
 
