@@ -12,8 +12,8 @@ ROOT = Path(__file__).resolve().parent.parent
 OUT = ROOT / "target" / "compare"
 ARCHIVE = ROOT / "target" / "staticlib" / "libcapacity.a"
 RIVAL = ROOT / "target" / "rival" / "rival"
-MODULE = OUT / "module"
-
+MODULE = OUT / "module"          # settles sheets by the module
+TRANSFERS = OUT / "transfers"    # applies lists of transfers by it
 
 LONGEST_WAIT = 300  # seconds
 
@@ -68,12 +68,17 @@ def build_module(archive):
     if not Path(archive).is_file():
         raise Trouble(f"there is no archive {archive}; make it with: rt staticlib capacity")
     make_folder(OUT)
-    new = MODULE.with_suffix(".new")
+    for driver in (MODULE, TRANSFERS):
+        build_driver(driver, archive)
+
+
+def build_driver(driver, archive):
+    new, source = driver.with_suffix(".new"), ROOT / "compare" / f"{driver.name}.c"
     status, printed = run_program(["cc", "-std=c99", "-O2", "-Wall", "-Wextra", "-Werror", "-I", ROOT / "include",
-                                   "-o", new, ROOT / "compare" / "module.c", archive])
+                                   "-o", new, source, archive])
     if status != 0:
-        raise Trouble(f"the module's driver was not built\n{printed}")
-    new.replace(MODULE)
+        raise Trouble(f"the module's driver {driver.name} was not built\n{printed}")
+    new.replace(driver)
 
 
 def make_folder(path):
@@ -94,12 +99,16 @@ def case_bytes(sheet, buffer):
     return struct.pack(">2I", len(sheet), buffer) + sheet
 
 
+def list_case_bytes(sheet, transfers):
+    return struct.pack(">2I", len(sheet), len(transfers)) + sheet + transfers
+
+
 def write_cases(path, cases):
-    write_file(path, b"".join(case_bytes(case.sheet, case.buffer) for case in cases))
+    write_file(path, b"".join(case.to_bytes() for case in cases))
 
 
 def read_answers(path, count):
-    """For each case the refusal's number, or the result's bytes."""
+    """For each case the refusal's number, or the bytes of the result or of the sheet afterwards."""
     try:
         content = Path(path).read_bytes()
     except OSError as error:
@@ -118,11 +127,11 @@ def read_answers(path, count):
     return answers
 
 
-def rival_answers(cases, folder):
-    """Settles cases by the rival, with files in a folder."""
+def rival_answers(cases, folder, command="batch"):
+    """The rival's answers to cases, with files in a folder."""
     asked, answered = Path(folder) / "cases", Path(folder) / "rival"
     write_cases(asked, cases)
-    status, printed = run_program([RIVAL, "batch", asked, answered])
+    status, printed = run_program([RIVAL, command, asked, answered])
     if status != 0:
         raise Trouble(f"the rival ended with status {status}\n{printed}")
     return read_answers(answered, len(cases))

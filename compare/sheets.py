@@ -33,6 +33,13 @@ class Case(NamedTuple):
     sheet: bytes
     buffer: int
 
+    @property
+    def length(self):
+        return len(self.sheet)
+
+    def to_bytes(self):
+        return programs.case_bytes(self.sheet, self.buffer)
+
 
 class Pair(NamedTuple):
     """Two accepted sheets in the relation of demand 3."""
@@ -73,15 +80,23 @@ SHARES = {
 }
 
 
-def make_schedule():
+def make_schedule(shares):
     """The group of each case of a hundred, with its number in the group: first one of each group, then a second."""
     schedule = []
-    for number in range(max(SHARES.values())):
-        schedule.extend((group, number) for group in GROUPS if number < SHARES[group])
+    for number in range(max(shares.values())):
+        schedule.extend((group, number) for group in shares if number < shares[group])
     return schedule
 
 
-SCHEDULE = make_schedule()
+def group_and_corner(groups, shares, schedule, index):
+    """The corners of a group come in turn."""
+    group, number = schedule[index % len(schedule)]
+    corners = list(groups[group])
+    turn = index // len(schedule) * shares[group] + number
+    return group, corners[turn % len(corners)]
+
+
+SCHEDULE = make_schedule({group: SHARES[group] for group in GROUPS})
 
 # ------------------------------------------------------------------ cases
 
@@ -115,10 +130,7 @@ def draw_case(rng, group, corner):
 
 
 def case(seed, index):
-    group, number = SCHEDULE[index % len(SCHEDULE)]
-    turn = index // len(SCHEDULE) * SHARES[group] + number
-    corners = list(GROUPS[group])
-    return draw_case(random.Random(f"{seed}/{index}"), group, corners[turn % len(corners)])
+    return draw_case(random.Random(f"{seed}/{index}"), *group_and_corner(GROUPS, SHARES, SCHEDULE, index))
 
 
 def cases(seed, count, start=0):

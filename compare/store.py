@@ -5,7 +5,9 @@
 
 OUTDIR/GROUP holds cases one after another: sheet length (4 bytes, highest first), result buffer length (4),
 kind of answer (1: 0 result, 1 refusal), byte count or refusal number (4), the sheet, for kind 0 the result.
-FILE gets a line for each group, its name and its count of cases, in a fixed order.
+OUTDIR/transfers holds sheets with lists of transfers: sheet length (4), list length (4), kind of answer (1: 0 done,
+1 refusal), byte count 0 or refusal number (4), the sheet, the list, and the sheet afterwards, which after a refusal is
+the sheet again. FILE gets a line for each file, its name and its count of cases, in a fixed order.
 """
 import argparse
 import random
@@ -18,12 +20,13 @@ sys.dont_write_bytecode = True
 
 import programs
 import sheets
+import transfers
 from bands import EDGES
 from programs import Trouble
 
 SEED = 152
 LONGEST_SHEET = 65_000
-MOST_BYTES = 1_500_000
+MOST_BYTES = 1_600_000
 DRAWS = 40
 
 # A sheet with one producer of 28 days, up to a few rows and consumers; a sheet without producers.
@@ -66,42 +69,66 @@ LEFT_OUT = {f"bands_of_k1/{side}_{edge}" for side in ("exact", "exact_next") for
     "refusal_5/rows_33", "refusal_10/producer_other", "refusal_10/consumer_other", "zero_counts/rows_without_volume"}
 MONTHS_STORED = 28  # all months once, each with the next form of holidays
 
+# Sheets with a list, each kind once: lists that are applied, every cause of 13 to 15, the order of the numbers.
+SHORT_PAIR = 130    # sheet and list in bytes, if the kind allows it
+LISTS = (
+    "applied/no_entries", "applied/all_given_and_taker_filled", "applied/given_on", "applied/repeated",
+    "long/behind_producers",
+    "list_13/four_bytes", "list_13/length_one_more", "list_13/6_bytes_of_an_entry", "list_13/version_2",
+    "list_13/day_0", "list_13/day_32", "list_13/giver_next", "list_13/taker_next", "list_13/one_consumer_twice",
+    "list_14/day_21", "list_15/one_more_than_the_giver_has", "list_15/taker_one_above", "list_15/emptied_before",
+    "several_rules/12_and_13", "several_rules/13_and_14", "several_rules/14_and_15",
+)
+
 
 def corners_stored(group):
     corners = [corner for corner in sheets.GROUPS[group] if f"{group}/{corner}" not in LEFT_OUT]
     return corners[:MONTHS_STORED] if group == "months" else corners
 
 
-def draw_stored(group, corner, number, length):
+def draw_stored(draw_case, seed, length, group, corner):
     """The first of some draws that is short enough, or else the shortest."""
     shortest = None
     for draw in range(DRAWS):
-        case = sheets.draw_case(random.Random(f"{SEED}/{group}/{corner}/{number}/{draw}"), group, corner)
-        if len(case.sheet) <= length:
+        case = draw_case(random.Random(f"{seed}/{draw}"), group, corner)
+        if case.length <= length:
             return case
-        if shortest is None or len(case.sheet) < len(shortest.sheet):
+        if shortest is None or case.length < shortest.length:
             shortest = case
     return shortest
 
 
 def stored_cases(group):
     times, length = PLAN[group]
-    cases = [draw_stored(group, corner, number, length) for number in range(times) for corner in corners_stored(group)]
+    cases = [draw_stored(sheets.draw_case, f"{SEED}/{group}/{corner}/{number}", length, group, corner)
+             for number in range(times) for corner in corners_stored(group)]
     return [case for case in cases if len(case.sheet) <= LONGEST_SHEET]
 
 
-def check_intended(cases, answers):
+def stored_lists():
+    return [draw_stored(transfers.draw_case, f"{SEED}/transfers/{kind}", SHORT_PAIR, *kind.split("/"))
+            for kind in LISTS]
+
+
+def check_intended(cases, answers, intended_refusal):
     for case, answer in zip(cases, answers):
-        intended = sheets.intended_refusal(case.kind)
+        intended = intended_refusal(case.kind)
         answered = answer if isinstance(answer, int) else 0
         if intended is not None and answered != intended:
-            raise Trouble(f"{case.kind} was drawn for {intended}, the rival answers {answered}; 0 stands for a result")
+            raise Trouble(f"{case.kind} was drawn for {intended}, the rival answers {answered} (0: no refusal)")
 
 
 def stored_bytes(case, answer):
     refused = isinstance(answer, int)
     front = struct.pack(">2IBI", len(case.sheet), case.buffer, refused, answer if refused else len(answer))
     return front + case.sheet + (b"" if refused else answer)
+
+
+def stored_list_bytes(case, answer):
+    """A list that is applied is answered with byte count 0. The sheet afterwards stands there in any case."""
+    refused = isinstance(answer, int)
+    front = struct.pack(">2IBI", len(case.sheet), len(case.list), refused, answer if refused else 0)
+    return front + case.sheet + case.list + (case.sheet if refused else answer)
 
 
 def read_options():
@@ -112,19 +139,30 @@ def read_options():
     return options.parse_args()
 
 
+def answered_sheets(group, folder):
+    """The stored cases of a group, each in bytes."""
+    cases = stored_cases(group)
+    answers = programs.rival_answers(cases, folder)
+    check_intended(cases, answers, sheets.intended_refusal)
+    if group == "checked_months":
+        programs.check_paper(cases, answers)
+    return list(map(stored_bytes, cases, answers))
+
+
+def answered_lists(folder):
+    cases = stored_lists()
+    answers = programs.rival_answers(cases, folder, "transfers")
+    check_intended(cases, answers, transfers.intended_refusal)
+    return list(map(stored_list_bytes, cases, answers))
+
+
 def main():
     options = read_options()
     programs.build_rival()
     programs.make_folder(programs.OUT)
-    files = {}
     with tempfile.TemporaryDirectory(dir=programs.OUT) as folder:
-        for group in PLAN:
-            cases = stored_cases(group)
-            answers = programs.rival_answers(cases, folder)
-            check_intended(cases, answers)
-            if group == "checked_months":
-                programs.check_paper(cases, answers)
-            files[group] = [stored_bytes(case, answer) for case, answer in zip(cases, answers)]
+        files = {group: answered_sheets(group, folder) for group in PLAN}
+        files["transfers"] = answered_lists(folder)
     total = sum(len(each) for stored in files.values() for each in stored)
     if total >= MOST_BYTES:
         raise Trouble(f"the stored cases take {total} bytes, which is not below {MOST_BYTES}")

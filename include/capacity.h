@@ -1,11 +1,15 @@
 /*
- * Monthly capacity settlement: the module's entry for C.
+ * Monthly capacity settlement: the module's entries for C.
  *
- * Buffers. The caller owns both. The call reads the sheet, writes the result, and keeps neither pointer after it
- * returns. Nothing is allocated, and no state is kept from one call to the next. Each pointer is to lead to as many
- * bytes as the length after it says and may not be null; the two buffers must not overlap.
+ * capacity_settle     settles a month's sheet into a result
+ * capacity_transfer   applies a list of transfers to the contract volumes in a sheet, before it is settled
  *
- * Sheet and result are laid out as docs/RULES.md says: every field unsigned, big-endian, no padding.
+ * Buffers. The caller owns them. A call takes two: it reads the one declared const and writes to the other, which for
+ * capacity_transfer is the sheet itself. It keeps neither pointer after it returns. Nothing is allocated, and no state
+ * is kept from one call to the next. Each pointer is to lead to as many bytes as the length after it says and may not
+ * be null; the two buffers must not overlap.
+ *
+ * Sheet, result and list are laid out as docs/RULES.md says: every field unsigned, big-endian, no padding.
  */
 #ifndef CAPACITY_H
 #define CAPACITY_H
@@ -23,8 +27,13 @@ extern "C" {
 /* The longest result, in bytes: 32 rows, 32 consumers. A buffer of this size is long enough for every sheet. */
 #define CAPACITY_LARGEST_RESULT 1333
 
+/* A list of transfers, in bytes: its front (length and version), and each of its entries, however many there are. */
+#define CAPACITY_LIST_FRONT 5
+#define CAPACITY_LIST_ENTRY 7
+
 /*
  * The refusals: an answer of -CAPACITY_NO_HEADER and so on. They are tried in this order; docs/RULES.md has each cause.
+ * capacity_settle tries 1 to 12, capacity_transfer 1 to 6 and 8 to 15.
  */
 enum capacity_refusal {
     CAPACITY_NO_HEADER = 1,       /* fewer than 14 bytes */
@@ -38,7 +47,10 @@ enum capacity_refusal {
     CAPACITY_HIGH_FIGURE = 9,     /* a capacity, power, volume or peak */
     CAPACITY_BAD_REFERENCE = 10,  /* a row's producer or consumer */
     CAPACITY_HIGH_PRICE = 11,     /* a price */
-    CAPACITY_BAD_FACTOR = 12      /* mining days or z */
+    CAPACITY_BAD_FACTOR = 12,     /* mining days or z */
+    CAPACITY_BAD_LIST = 13,       /* the list's length, version, a day of no month, a giver or taker */
+    CAPACITY_FILED_LATE = 14,     /* an entry filed after day 20 */
+    CAPACITY_OVERDRAWN = 15       /* at its turn, an entry asks more than the giver has or the taker may have */
 };
 
 /*
@@ -53,6 +65,20 @@ enum capacity_refusal {
  * The answer is never 0. Any bytes may be handed over as a sheet.
  */
 int64_t capacity_settle(const uint8_t *sheet, size_t sheet_length, uint8_t *result, size_t result_length);
+
+/*
+ * Applies a month's transfers to the contract volumes in its sheet, entry by entry in the list's order.
+ *
+ * If the answer is 0, the whole list was applied: the contract volumes in the sheet are those after the list, their sum
+ * is as before, and every other byte of the sheet keeps what it had. The sheet is then settled as any other.
+ *
+ * If it is below 0, sheet or list is turned down: the answer is minus the refusal's number. Every byte of the sheet
+ * keeps what it had, even if only the last entry cannot be met.
+ *
+ * The answer is never above 0. Any bytes may be handed over as a sheet and as a list. A list that is handed over again
+ * is applied again: the module keeps no record of the lists that a sheet has seen.
+ */
+int64_t capacity_transfer(uint8_t *sheet, size_t sheet_length, const uint8_t *list, size_t list_length);
 
 /*
  * Reading a result. The counts of rows and consumers are the sheet's, at places 12 and 13 of its header; what is read is

@@ -1,6 +1,6 @@
 /*
- * Settles the example sheet in a program that has no C library. The archive needs memcpy and memset, which stand here.
- * The status is 0 if answer and result are right. Linux on x86-64.
+ * Settles the example sheet, and applies the example list, in a program that has no C library. The archive needs memcpy
+ * and memset, which stand here. The status is 0 if answers, result and sheet are right. Linux on x86-64.
  */
 #include "capacity.h"
 #include "example.h"
@@ -28,15 +28,26 @@ void *memcpy(void *to, const void *from, size_t count)
     return to;
 }
 
+static int same(const uint8_t *one, const uint8_t *other, size_t count)
+{
+    while (count-- > 0)
+        if (*one++ != *other++)
+            return 0;
+    return 1;
+}
+
 static int settles_example(void)
 {
     uint8_t result[sizeof expected];
-    if (capacity_settle(sheet, sizeof sheet, result, sizeof result) != (int64_t)sizeof expected)
-        return 0;
-    for (size_t i = 0; i < sizeof expected; i++)
-        if (result[i] != expected[i])
-            return 0;
-    return 1;
+    return capacity_settle(sheet, sizeof sheet, result, sizeof result) == (int64_t)sizeof expected &&
+           same(result, expected, sizeof expected);
+}
+
+static int applies_list(void)
+{
+    uint8_t lent[sizeof members];
+    memcpy(lent, members, sizeof members);
+    return capacity_transfer(lent, sizeof lent, list, sizeof list) == 0 && same(lent, members_after, sizeof lent);
 }
 
 static void leave(long status)
@@ -49,5 +60,5 @@ __attribute__((force_align_arg_pointer)) void _start(void);
 
 void _start(void)
 {
-    leave(settles_example() ? 0 : 1);
+    leave(settles_example() && applies_list() ? 0 : 1);
 }

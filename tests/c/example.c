@@ -1,4 +1,7 @@
-/* Settles document 01's example sheet through the C entry, and checks every byte of the buffer afterwards. */
+/*
+ * Settles document 01's example sheet through the C entries, and applies a list of transfers to another. Every byte of
+ * a buffer that a call may write to is checked afterwards.
+ */
 #include <stdio.h>
 #include <string.h>
 
@@ -64,12 +67,113 @@ static void check_no_bytes(void)
     expect_byte("buffer of no bytes", buffer, 0, UNTOUCHED);
 }
 
+/* ---------------------------------------------------------------- transfers */
+
+/* A sheet to be changed in place, with a byte before it and one behind it. */
+static uint8_t lent[1 + sizeof members + 1];
+
+static int64_t transfer(size_t sheet_length, const uint8_t *transfers, size_t list_length)
+{
+    memset(lent, UNTOUCHED, sizeof lent);
+    memcpy(lent + 1, members, sizeof members);
+    return capacity_transfer(lent + 1, sheet_length, transfers, list_length);
+}
+
+static void expect_lent(const char *what, const uint8_t *wanted)
+{
+    expect_byte(what, lent, 0, UNTOUCHED);
+    for (size_t i = 0; i < sizeof members; i++)
+        expect_byte(what, lent, 1 + i, wanted[i]);
+    expect_byte(what, lent, 1 + sizeof members, UNTOUCHED);
+}
+
+static void expect_consumer(const uint8_t *result, size_t consumer, uint64_t volume, uint64_t charge)
+{
+    struct capacity_consumer_line line = capacity_read_consumer(result, 0, consumer);
+    if (line.volume != volume || line.charge != charge) {
+        printf("C example: consumer %zu after the list: volume %llu, charge %llu\n", consumer,
+               (unsigned long long)line.volume, (unsigned long long)line.charge);
+        wrong = 1;
+    }
+}
+
+/* The list is applied in place, and the sheet settled with the new contract volumes. */
+static void check_applied_and_settled(void)
+{
+    uint8_t result[CAPACITY_LARGEST_RESULT];
+    expect_answer("list", transfer(sizeof members, list, sizeof list), 0);
+    expect_lent("list", members_after);
+    expect_answer("sheet after the list", capacity_settle(lent + 1, sizeof members, result, sizeof result), 71);
+    expect_consumer(result, 0, 1240, 12400000);
+    expect_consumer(result, 1, 1000, 10000000);
+}
+
+/* A list of no entries changes nothing. */
+static void check_empty_list(void)
+{
+    static const uint8_t empty[CAPACITY_LIST_FRONT] = {0, 0, 0, CAPACITY_LIST_FRONT, 1};
+    expect_answer("list of no entries", transfer(sizeof members, empty, sizeof empty), 0);
+    expect_lent("list of no entries", members);
+}
+
+/* The list with one byte changed is turned down, and the sheet keeps every byte. */
+static void check_changed(const char *what, size_t at, uint8_t byte, int64_t wanted)
+{
+    uint8_t changed[sizeof list];
+    memcpy(changed, list, sizeof list);
+    changed[at] = byte;
+    expect_answer(what, transfer(sizeof members, changed, sizeof changed), wanted);
+    expect_lent(what, members);
+}
+
+static void check_bad_lists(void)
+{
+    check_changed("length field 13", 3, 13, -CAPACITY_BAD_LIST);
+    check_changed("list version 2", 4, 2, -CAPACITY_BAD_LIST);
+    check_changed("day 0", 5, 0, -CAPACITY_BAD_LIST);
+    check_changed("day 32", 5, 32, -CAPACITY_BAD_LIST);
+    check_changed("giver 2 of 2", 6, 2, -CAPACITY_BAD_LIST);
+    check_changed("taker 0, as the giver", 7, 0, -CAPACITY_BAD_LIST);
+    expect_answer("list of 11 bytes", transfer(sizeof members, list, sizeof list - 1), -CAPACITY_BAD_LIST);
+    expect_lent("list of 11 bytes", members);
+    expect_answer("list of no bytes", transfer(sizeof members, list + sizeof list, 0), -CAPACITY_BAD_LIST);
+    expect_lent("list of no bytes", members);
+    check_changed("day 21", 5, 21, -CAPACITY_FILED_LATE);
+    check_changed("an amount of 66,036 tenths", 9, 1, -CAPACITY_OVERDRAWN);
+}
+
+/* The first of two entries could be met, the second not: the first is not applied either. */
+static void check_second_unmet(void)
+{
+    static const uint8_t two[CAPACITY_LIST_FRONT + 2 * CAPACITY_LIST_ENTRY] = {
+        0, 0, 0, 19, 1,
+        1, 0, 1, 0, 0, 5, 220, /* all that consumer 0 has */
+        2, 0, 1, 0, 0, 0, 1,
+    };
+    expect_answer("second entry unmet", transfer(sizeof members, two, sizeof two), -CAPACITY_OVERDRAWN);
+    expect_lent("second entry unmet", members);
+}
+
+/* The sheet's own numbers come first, whatever the list is. */
+static void check_bad_sheet_first(void)
+{
+    expect_answer("sheet of 43 bytes, no list", transfer(sizeof members - 1, list, 0), -CAPACITY_WRONG_LENGTH);
+    expect_lent("sheet of 43 bytes, no list", members);
+    expect_answer("sheet and list of no bytes", transfer(0, list, 0), -CAPACITY_NO_HEADER);
+    expect_lent("sheet and list of no bytes", members);
+}
+
 int main(void)
 {
     check_accepted();
     check_exact_room();
     check_too_short();
     check_no_bytes();
+    check_applied_and_settled();
+    check_empty_list();
+    check_bad_lists();
+    check_second_unmet();
+    check_bad_sheet_first();
     if (wrong)
         return 1;
     puts("C example: ok");

@@ -22,6 +22,10 @@ strict() {
     "$@" -pedantic -Wall -Wextra -Werror -Iinclude
 }
 
+# The stored cases: sheets with results, and sheets with lists of transfers.
+lists=crates/vectors/data/transfers
+sheets=$(ls -d crates/vectors/data/* | grep -v "^$lists\$")
+
 # The header alone, and the example.
 for std in c99 c11 c17; do
     echo '#include "capacity.h"' | strict "$CC" -std=$std -fsyntax-only -x c - || fail "the header is no $std"
@@ -40,7 +44,7 @@ fi
 
 # The header's readers of a result, from C and C++.
 strict "$CC" -std=c99 -O1 -o "$out/readers" tests/c/readers.c || fail "readers.c does not build"
-results=$("$out/readers" crates/vectors/data/*) || fail "the header's readers read a stored result otherwise"
+results=$("$out/readers" $sheets) || fail "the header's readers read a stored result otherwise"
 [ "$results" -gt 0 ] || fail "no stored result was read"
 echo "readers: $results stored results, every figure"
 
@@ -50,13 +54,17 @@ strict "$CC" -std=c99 -ffreestanding -fno-stack-protector -nostdlib -static -o "
 "$out/bare" || fail "the program without a C library fails"
 echo "program without a C library: ok"
 
-# The archive: exports what the header declares, needs nothing that a compiler without a C library does not, has no variable.
+# The archive: exports what the header declares and nothing else, needs nothing that a compiler without a C library does
+# not, has no variable.
 exported=$(nm -g --defined-only "$archive" | awk 'NF == 3 { print $3 }' | paste -s -d ' ' -)
 needed=$(nm -u "$archive" | awk '$1 == "U" { print $2 }' | paste -s -d ' ' -)
 code=$(size "$archive" | awk 'NR == 2 { print $1 }')
 variables=$(size "$archive" | awk 'NR == 2 { print $2 + $3 }')
 for name in $exported; do
     grep -q "[ *]$name(" include/capacity.h || fail "the archive exports $name, which the header does not declare"
+done
+for name in $(sed -n 's/^int64_t \(capacity_[a-z_]*\)(.*/\1/p' include/capacity.h); do
+    case " $exported " in *" $name "*) ;; *) fail "the header declares $name, which the archive does not export" ;; esac
 done
 for name in $needed; do
     case $name in memcpy | memmove | memset | memcmp) ;; *) fail "the archive needs $name" ;; esac
@@ -66,8 +74,6 @@ echo "archive: exports $exported; needs ${needed:-nothing}; $code bytes of code,
 
 # The stack: what the stored cases use, and every function's return address, pushes and locals added up.
 strict "$CC" -std=c99 -O1 -Wl,-z,now -o "$out/stack" tests/c/stack.c "$archive" || fail "stack.c does not build"
-measured=$("$out/stack" crates/vectors/data/*) || fail "a stored case comes out otherwise"
-set -- $measured
 listing=$out/listing
 objdump -d --no-show-raw-insn "$archive" >"$listing"
 words=$(grep -c -E '^[0-9a-f]+ <|[[:space:]]push[[:space:]]' "$listing")
@@ -75,5 +81,17 @@ frames=$((8 * words))
 for locals in $(sed -n 's/.*sub  *\$\(0x[0-9a-f]*\),%rsp$/\1/p' "$listing"); do
     frames=$((frames + locals))
 done
-[ "$3" -le "$frames" ] || fail "$3 bytes of stack used, $frames seen in the code"
-echo "stack: $1 stored cases, sheets to $2 bytes, use at most $3 bytes; all frames together have $frames"
+
+# The stack that an entry uses on files of its stored cases.
+measure() {
+    entry=$1
+    shift
+    measured=$("$out/stack" "$entry" "$@") || fail "a stored case of capacity_$entry comes out otherwise"
+    set -- $measured
+    [ "$3" -le "$frames" ] || fail "$3 bytes of stack used by capacity_$entry, $frames seen in the code"
+    echo "stack: capacity_$entry, $1 stored cases, sheets to $2 bytes: at most $3 bytes"
+}
+
+measure settle $sheets
+measure transfer "$lists"
+echo "stack: all frames together have $frames bytes"

@@ -1,11 +1,13 @@
 /*
- * How much stack capacity_settle uses.
+ * How much stack the entries use.
  *
- *   stack FILE...      files of stored cases (crates/vectors/data; compare/README.md has their format)
+ *   stack settle FILE...        files of stored cases (crates/vectors/data; compare/README.md has their format)
+ *   stack transfer FILE...      files of stored lists (crates/vectors/data/transfers)
  *
- * Each case is settled on a stack of its own that was painted before: bytes that lost the paint were used, the return
+ * Each case is answered on a stack of its own that was painted before: bytes that lost the paint were used, the return
  * address among them. That is done with two paints, since a byte written over with itself is not seen. The answer and
- * the result must be the stored ones. It prints how many cases there were, the longest sheet, and the most bytes used.
+ * what the call writes must be as stored. It prints how many cases there were, the longest sheet, and the most bytes
+ * used.
  *
  * Status 1: another answer than the stored one. Status 2: wrong use, or trouble with a file. x86-64, GCC or Clang.
  */
@@ -18,10 +20,16 @@
 enum { STACK = 65536, LONGEST = 65536, FRONT = 13 };
 
 struct stored {
-    uint8_t front[FRONT]; /* sheet length (4), buffer length (4), kind (1), count or number (4) */
+    uint8_t front[FRONT]; /* sheet length (4), length of buffer or list (4), kind (1), count or number (4) */
     uint8_t sheet[LONGEST];
-    uint8_t told[LONGEST];
+    uint8_t list[LONGEST];
+    uint8_t told[LONGEST]; /* the result, or the sheet afterwards */
 };
+
+static struct stored stored;
+
+/* What a call may write to. */
+static uint8_t lent[LONGEST];
 
 /* A stack begins at an address that 16 divides, as the calling convention asks. */
 static uint8_t stack[STACK] __attribute__((aligned(16)));
@@ -37,34 +45,98 @@ static size_t four_bytes(const uint8_t *bytes)
     return (size_t)bytes[0] << 24 | (size_t)bytes[1] << 16 | (size_t)bytes[2] << 8 | bytes[3];
 }
 
-/* The call, with the stack pointer at the end of `stack`. It keeps rbx, where the old one stands meanwhile. */
-static int64_t settle_on_stack(const uint8_t *sheet, size_t sheet_length, uint8_t *result, size_t result_length)
+static size_t sheet_length(void)
+{
+    return four_bytes(stored.front);
+}
+
+/* The length of the result buffer or of the list. */
+static size_t second_length(void)
+{
+    return four_bytes(stored.front + 4);
+}
+
+static int refused(void)
+{
+    return stored.front[8] != 0;
+}
+
+static size_t number(void)
+{
+    return four_bytes(stored.front + 9);
+}
+
+/* A call with two buffers and the stack pointer at the end of `stack`. It keeps rbx, where the old one stands then. */
+static int64_t call_on_stack(void (*entry)(void), const uint8_t *first, size_t first_length, const uint8_t *second,
+                             size_t second_length)
 {
     int64_t answer;
     __asm__ volatile("movq %%rsp, %%rbx\n\t"
                      "movq %[top], %%rsp\n\t"
                      "call *%[entry]\n\t"
                      "movq %%rbx, %%rsp"
-                     : "=a"(answer), "+D"(sheet), "+S"(sheet_length), "+d"(result), "+c"(result_length)
-                     : [top] "r"(stack + STACK), [entry] "r"(capacity_settle)
+                     : "=a"(answer), "+D"(first), "+S"(first_length), "+d"(second), "+c"(second_length)
+                     : [top] "r"(stack + STACK), [entry] "r"(entry)
                      : "rbx", "r8", "r9", "r10", "r11", "xmm0", "xmm1", "xmm2", "xmm3", "xmm4", "xmm5", "xmm6", "xmm7",
                        "xmm8", "xmm9", "xmm10", "xmm11", "xmm12", "xmm13", "xmm14", "xmm15", "cc", "memory");
     return answer;
 }
 
-/* Settles a case on a stack of this paint; the bytes used. */
-static size_t used_by(const struct stored *c, uint8_t paint, const char *file)
+/* ---------------------------------------------------------------- entries */
+
+struct entry {
+    const char *name;
+    int64_t (*call)(void);       /* on the painted stack */
+    size_t (*list_length)(void); /* the bytes that stand behind the sheet in a case */
+    size_t (*written)(void);     /* the bytes of `told`; after the call they must be in `lent` */
+};
+
+static int64_t settle(void)
 {
-    static uint8_t result[LONGEST];
-    size_t number = four_bytes(c->front + 9);
-    int refused = c->front[8] != 0;
+    return call_on_stack((void (*)(void))capacity_settle, stored.sheet, sheet_length(), lent, second_length());
+}
+
+static size_t no_list(void)
+{
+    return 0;
+}
+
+static size_t result_length(void)
+{
+    return refused() ? 0 : number();
+}
+
+static int64_t transfer(void)
+{
+    memcpy(lent, stored.sheet, sheet_length());
+    return call_on_stack((void (*)(void))capacity_transfer, lent, sheet_length(), stored.list, second_length());
+}
+
+static const struct entry entries[] = {
+    {"settle", settle, no_list, result_length},
+    {"transfer", transfer, second_length, sheet_length},
+};
+
+static const struct entry *entry_named(const char *name)
+{
+    for (size_t i = 0; i < sizeof entries / sizeof entries[0]; i++)
+        if (strcmp(entries[i].name, name) == 0)
+            return &entries[i];
+    return NULL;
+}
+
+/* ---------------------------------------------------------------- cases */
+
+/* Answers the stored case on a stack of this paint; the bytes used. */
+static size_t used_by(const struct entry *entry, uint8_t paint, const char *file)
+{
     size_t first = 0;
     memset(stack, paint, sizeof stack);
-    int64_t answer = settle_on_stack(c->sheet, four_bytes(c->front), result, four_bytes(c->front + 4));
-    if (answer != (refused ? -(int64_t)number : (int64_t)number))
+    int64_t answer = entry->call();
+    if (answer != (refused() ? -(int64_t)number() : (int64_t)number()))
         stop(1, file, "the answer is not the stored one");
-    if (!refused && memcmp(result, c->told, number) != 0)
-        stop(1, file, "the result is not the stored one");
+    if (memcmp(lent, stored.told, entry->written()) != 0)
+        stop(1, file, "what the call wrote is not what is stored");
     while (first < sizeof stack && stack[first] == paint)
         first++;
     return sizeof stack - first;
@@ -77,15 +149,16 @@ static void read_whole(FILE *in, uint8_t *bytes, size_t length, const char *file
 }
 
 /* Reads the next case; 0 at the end of the file. */
-static int next_case(FILE *in, struct stored *c, const char *file)
+static int next_case(FILE *in, const struct entry *entry, const char *file)
 {
-    size_t got = fread(c->front, 1, FRONT, in);
+    size_t got = fread(stored.front, 1, FRONT, in);
     if (got == 0 && feof(in))
         return 0;
-    if (got != FRONT || four_bytes(c->front + 4) > LONGEST)
+    if (got != FRONT || second_length() > LONGEST)
         stop(2, file, "a case is too long or not whole");
-    read_whole(in, c->sheet, four_bytes(c->front), file);
-    read_whole(in, c->told, c->front[8] != 0 ? 0 : four_bytes(c->front + 9), file);
+    read_whole(in, stored.sheet, sheet_length(), file);
+    read_whole(in, stored.list, entry->list_length(), file);
+    read_whole(in, stored.told, entry->written(), file);
     return 1;
 }
 
@@ -96,20 +169,20 @@ static size_t larger(size_t a, size_t b)
 
 int main(int count, char **words)
 {
-    static struct stored c;
     size_t cases = 0, longest = 0, used = 0;
-    if (count < 2) {
-        fputs("usage: stack FILE...\n", stderr);
+    const struct entry *entry = count < 3 ? NULL : entry_named(words[1]);
+    if (entry == NULL) {
+        fputs("usage: stack settle FILE...\n       stack transfer FILE...\n", stderr);
         return 2;
     }
-    for (int i = 1; i < count; i++) {
+    for (int i = 2; i < count; i++) {
         FILE *in = fopen(words[i], "rb");
         if (in == NULL)
             stop(2, words[i], "cannot open it");
-        for (; next_case(in, &c, words[i]); cases++) {
-            longest = larger(longest, four_bytes(c.front));
-            used = larger(used, used_by(&c, 0xA5, words[i]));
-            used = larger(used, used_by(&c, 0x5A, words[i]));
+        for (; next_case(in, entry, words[i]); cases++) {
+            longest = larger(longest, sheet_length());
+            used = larger(used, used_by(entry, 0xA5, words[i]));
+            used = larger(used, used_by(entry, 0x5A, words[i]));
         }
         fclose(in);
     }

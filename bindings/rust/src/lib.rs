@@ -5,8 +5,10 @@
 use core::fmt;
 
 mod figures;
+mod lists;
 
 pub use figures::{ConsumerLine, Figures, RowLine, Totals};
+pub use lists::{list_length, write_list, Transfer, LIST_ENTRY, LIST_FRONT};
 
 /// The longest sheet, in bytes: 6 producers, 31 days, 32 rows, 32 consumers.
 pub const LARGEST_SHEET: usize = 14 + 6 * (42 + 288 * 31) + 10 * 32 + 15 * 32;
@@ -14,12 +16,13 @@ pub const LARGEST_SHEET: usize = 14 + 6 * (42 + 288 * 31) + 10 * 32 + 15 * 32;
 /// The longest result, in bytes: 32 rows, 32 consumers. A buffer of this size is long enough for every sheet.
 pub const LARGEST_RESULT: usize = 21 + 16 * 32 + 25 * 32;
 
-/// Why a sheet was turned down: the first of the numbers of docs/RULES.md that applies. The result buffer keeps every byte.
+/// Why a sheet or a list was turned down: the first of the numbers of docs/RULES.md that applies, in the order in which
+/// they are tried. Every byte of the buffers keeps what it had.
 #[derive(Clone, Copy, Debug, PartialEq, Eq, Hash)]
 pub struct Refusal(u8);
 
 /// The words for each number, from 1 on.
-const WORDS: [&str; 12] = [
+const WORDS: [&str; 15] = [
     "the sheet is shorter than its header",
     "the length field is not the sheet's length",
     "the version is unknown",
@@ -32,6 +35,9 @@ const WORDS: [&str; 12] = [
     "a row names a producer or a consumer that is not there",
     "a price is too large",
     "there are too many mining days, or z is outside its range",
+    "the list is wrong: its length, its version, a day, a giver or a taker",
+    "an entry of the list was filed after day 20",
+    "an entry of the list asks more than the giver has, or than the taker may have",
 ];
 
 impl Refusal {
@@ -59,6 +65,12 @@ impl Refusal {
     pub const HIGH_PRICE: Refusal = Refusal(11);
     /// Mining days or z.
     pub const BAD_FACTOR: Refusal = Refusal(12);
+    /// The list's length, version, a day of no month, a giver or taker.
+    pub const BAD_LIST: Refusal = Refusal(13);
+    /// An entry filed after day 20.
+    pub const FILED_LATE: Refusal = Refusal(14);
+    /// At its turn, an entry asks more than the giver has or the taker may have.
+    pub const OVERDRAWN: Refusal = Refusal(15);
 
     /// The number of the rule, as docs/RULES.md counts them.
     pub const fn number(self) -> u8 {
@@ -67,7 +79,7 @@ impl Refusal {
 
     fn words(self) -> &'static str {
         let place = usize::from(self.0).wrapping_sub(1);
-        WORDS.get(place).copied().unwrap_or("the sheet is turned down")
+        WORDS.get(place).copied().unwrap_or("turned down")
     }
 }
 
@@ -79,9 +91,15 @@ impl fmt::Display for Refusal {
 
 impl core::error::Error for Refusal {}
 
-// As include/capacity.h declares it.
+// As include/capacity.h declares them.
 extern "C" {
     fn capacity_settle(sheet: *const u8, sheet_length: usize, result: *mut u8, result_length: usize) -> i64;
+    fn capacity_transfer(sheet: *mut u8, sheet_length: usize, list: *const u8, list_length: usize) -> i64;
+}
+
+/// A refusal from an answer below 0. By its contract that is minus a number from 1 to 15, which fits.
+fn refusal(answer: i64) -> Refusal {
+    Refusal(answer.unsigned_abs() as u8)
 }
 
 /// Settles one month's sheet into a result buffer.
@@ -102,10 +120,33 @@ pub fn settle(sheet: &[u8], result: &mut [u8]) -> Result<usize, Refusal> {
     // - No overlap: `result` is borrowed mutably, so no other borrow reaches its bytes.
     // - The module writes to `result` alone and keeps neither pointer, so both borrows may end with the call.
     let answer = unsafe { capacity_settle(sheet.as_ptr(), sheet.len(), result.as_mut_ptr(), result.len()) };
-    // By its contract: a count from 21 to LARGEST_RESULT, or minus a number from 1 to 12. Either fits.
+    // By its contract: a count from 21 to LARGEST_RESULT, or a refusal.
     if answer > 0 {
         Ok(answer as usize)
     } else {
-        Err(Refusal(answer.unsigned_abs() as u8))
+        Err(refusal(answer))
+    }
+}
+
+/// Applies a month's list of transfers to the contract volumes in its sheet, entry by entry in the list's order.
+///
+/// The sheet is then settled as any other. The sum of its contract volumes is as before, and every byte that does not
+/// belong to one of them keeps what it had. Sheet and list may hold any bytes and have any length; neither has to be
+/// aligned. A list that is handed over again is applied again. [`write_list`] writes a list.
+///
+/// # Errors
+///
+/// The [`Refusal`] of a sheet or a list that is turned down. Every byte of the sheet then keeps what it had, even if only
+/// the last entry cannot be met.
+#[allow(unsafe_code)]
+pub fn transfer(sheet: &mut [u8], list: &[u8]) -> Result<(), Refusal> {
+    // SAFETY: as in `settle`: two slices that do not overlap, `sheet` being borrowed mutably. The module reads and writes
+    // `sheet`, reads `list`, and keeps neither pointer.
+    let answer = unsafe { capacity_transfer(sheet.as_mut_ptr(), sheet.len(), list.as_ptr(), list.len()) };
+    // By its contract: 0, or a refusal.
+    if answer == 0 {
+        Ok(())
+    } else {
+        Err(refusal(answer))
     }
 }

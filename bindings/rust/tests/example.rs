@@ -1,7 +1,7 @@
 //! Document 01's example sheet and its figures.
 mod common;
 
-use capacity::{settle, LARGEST_RESULT, LARGEST_SHEET};
+use capacity::{settle, Refusal, LARGEST_RESULT, LARGEST_SHEET, LIST_ENTRY, LIST_FRONT};
 use common::{EXAMPLE, EXAMPLE_RESULT};
 
 /// Takes a field off the front.
@@ -33,5 +33,35 @@ fn lengths_are_those_of_the_c_header() {
     let header = include_str!("../../../include/capacity.h");
     assert!(header.contains(&format!("#define CAPACITY_LARGEST_SHEET {LARGEST_SHEET}\n")));
     assert!(header.contains(&format!("#define CAPACITY_LARGEST_RESULT {LARGEST_RESULT}\n")));
+    assert!(header.contains(&format!("#define CAPACITY_LIST_FRONT {LIST_FRONT}\n")));
+    assert!(header.contains(&format!("#define CAPACITY_LIST_ENTRY {LIST_ENTRY}\n")));
     assert_eq!((LARGEST_SHEET, LARGEST_RESULT), (54_634, 1_333));
+}
+
+#[test]
+fn refusals_are_those_of_the_c_header() {
+    let header = include_str!("../../../include/capacity.h");
+    let names = [
+        ("NO_HEADER", Refusal::NO_HEADER),
+        ("WRONG_LENGTH", Refusal::WRONG_LENGTH),
+        ("OTHER_VERSION", Refusal::OTHER_VERSION),
+        ("BAD_MONTH", Refusal::BAD_MONTH),
+        ("TOO_MANY", Refusal::TOO_MANY),
+        ("LENGTH_OFF", Refusal::LENGTH_OFF),
+        ("SHORT_BUFFER", Refusal::SHORT_BUFFER),
+        ("BAD_SHARE", Refusal::BAD_SHARE),
+        ("HIGH_FIGURE", Refusal::HIGH_FIGURE),
+        ("BAD_REFERENCE", Refusal::BAD_REFERENCE),
+        ("HIGH_PRICE", Refusal::HIGH_PRICE),
+        ("BAD_FACTOR", Refusal::BAD_FACTOR),
+        ("BAD_LIST", Refusal::BAD_LIST),
+        ("FILED_LATE", Refusal::FILED_LATE),
+        ("OVERDRAWN", Refusal::OVERDRAWN),
+    ];
+    let numbers = names.iter().filter(|(name, refusal)| {
+        let line = format!("    CAPACITY_{name} = {}", refusal.number());
+        header.lines().any(|found| found.strip_prefix(&line).is_some_and(|rest| rest.starts_with([',', ' '])))
+    });
+    assert_eq!(numbers.count(), names.len());
+    assert_eq!(header.matches("    CAPACITY_").count(), names.len());
 }

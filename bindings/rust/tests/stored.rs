@@ -1,6 +1,6 @@
 //! The stored sheets with the rival's answers, crates/vectors/data (compare/README.md has the format): one after the other,
 //! and by several threads at once.
-use capacity::{settle, Figures};
+use capacity::{settle, transfer, Figures};
 use std::fs;
 use std::path::{Path, PathBuf};
 use std::sync::Barrier;
@@ -11,6 +11,18 @@ struct Case {
     room: usize,
     /// The result, or the refusal's number.
     told: Result<Vec<u8>, u8>,
+}
+
+/// The file of lists of transfers, which has a form of its own.
+const LISTS: &str = "transfers";
+
+struct ListCase {
+    sheet: Vec<u8>,
+    list: Vec<u8>,
+    /// Nothing, or the refusal's number.
+    told: Result<(), u8>,
+    /// The sheet afterwards.
+    after: Vec<u8>,
 }
 
 fn vectors() -> PathBuf {
@@ -37,12 +49,25 @@ fn next_case(rest: &mut &[u8]) -> Case {
     Case { sheet, room, told }
 }
 
-fn cases_of(kind: &str) -> Vec<Case> {
+fn next_list(rest: &mut &[u8]) -> ListCase {
+    let length = take_number(rest);
+    let list_length = take_number(rest);
+    let refused = take(rest, 1) != [0];
+    let number = take_number(rest);
+    let sheet = take(rest, length).to_vec();
+    let list = take(rest, list_length).to_vec();
+    let after = take(rest, length).to_vec();
+    assert!(refused || number == 0, "a list that is applied is answered with 0");
+    ListCase { sheet, list, told: if refused { Err(number as u8) } else { Ok(()) }, after }
+}
+
+/// All that a file holds.
+fn read_all<T>(kind: &str, next: fn(&mut &[u8]) -> T) -> Vec<T> {
     let bytes = fs::read(vectors().join("data").join(kind)).expect(kind);
     let mut rest = &bytes[..];
     let mut cases = Vec::new();
     while !rest.is_empty() {
-        cases.push(next_case(&mut rest));
+        cases.push(next(&mut rest));
     }
     cases
 }
@@ -69,6 +94,14 @@ fn agrees(case: &Case, fill: u8) -> bool {
     answer.map_err(|refusal| refusal.number()) == told && buffer == wanted
 }
 
+/// The answer to a list and every byte of the sheet and around it are as stored.
+fn agrees_with_list(case: &ListCase, fill: u8) -> bool {
+    let around = |sheet: &[u8]| [&[fill; 8][..], sheet, &[fill; 8]].concat();
+    let mut memory = around(&case.sheet);
+    let answer = transfer(&mut memory[8..8 + case.sheet.len()], &case.list);
+    answer.map_err(|refusal| refusal.number()) == case.told && memory == around(&case.after)
+}
+
 /// Settles all of them twice, over different bytes.
 fn settle_all(stored: &[(String, Vec<Case>)]) {
     for (kind, cases) in stored {
@@ -78,27 +111,46 @@ fn settle_all(stored: &[(String, Vec<Case>)]) {
     }
 }
 
+fn transfer_all(lists: &[ListCase]) {
+    for (at, case) in lists.iter().enumerate() {
+        assert!(agrees_with_list(case, 0xA5) && agrees_with_list(case, 0x5A), "{LISTS}, case {at}");
+    }
+}
+
+/// The sheets to be settled.
 fn stored() -> Vec<(String, Vec<Case>)> {
-    kinds().into_iter().map(|(kind, _)| (kind.clone(), cases_of(&kind))).collect()
+    let sheets = kinds().into_iter().filter(|(kind, _)| kind != LISTS);
+    sheets.map(|(kind, _)| (kind.clone(), read_all(&kind, next_case))).collect()
+}
+
+/// The sheets with a list.
+fn stored_lists() -> Vec<ListCase> {
+    read_all(LISTS, next_list)
 }
 
 #[test]
 fn agree_byte_for_byte() {
-    let stored = stored();
-    let counts: Vec<_> = stored.iter().map(|(kind, cases)| (kind.clone(), cases.len())).collect();
+    let (stored, lists) = (stored(), stored_lists());
+    let mut counts: Vec<_> = stored.iter().map(|(kind, cases)| (kind.clone(), cases.len())).collect();
+    counts.push((LISTS.to_string(), lists.len()));
     assert_eq!(counts, kinds());
     assert_eq!(fs::read_dir(vectors().join("data")).unwrap().count(), counts.len());
     settle_all(&stored);
+    transfer_all(&lists);
 }
 
 #[test]
 fn agree_in_several_threads_at_once() {
     const THREADS: usize = 8;
-    let stored = stored();
+    let (stored, lists) = (stored(), stored_lists());
     let start = Barrier::new(THREADS);
+    let round = || {
+        settle_all(&stored);
+        transfer_all(&lists);
+    };
     let rounds = || {
         start.wait();
-        (0..10).for_each(|_| settle_all(&stored));
+        (0..10).for_each(|_| round());
     };
     thread::scope(|scope| {
         for _ in 0..THREADS {

@@ -8,6 +8,18 @@ pub const EXAMPLE: [u8; 29] =
 /// Its result has one consumer's record.
 pub const EXAMPLE_RESULT: usize = 46;
 
+/// Two consumers with contract volumes of 150.0 and 50.0 and peaks of 126.0 and 105.0, all else as in the example.
+pub const MEMBERS: [u8; 44] = [
+    0, 0, 0, 44, 1, 30, 1, 0, 0, 0, 0, 0, 0, 2, 0, 0, 5, 220, 0, 0, 4, 236, 0, 0, 10, 0, 1, 134, 160, 0, 0, 1, 244, 0,
+    0, 4, 26, 0, 0, 10, 0, 1, 134, 160,
+];
+
+/// The same after consumer 0 gave consumer 1 50.0.
+pub const MEMBERS_AFTER: [u8; 44] = [
+    0, 0, 0, 44, 1, 30, 1, 0, 0, 0, 0, 0, 0, 2, 0, 0, 3, 232, 0, 0, 4, 236, 0, 0, 10, 0, 1, 134, 160, 0, 0, 3, 232, 0,
+    0, 4, 26, 0, 0, 10, 0, 1, 134, 160,
+];
+
 /// What stands in a buffer before a call.
 pub const UNTOUCHED: u8 = 0xA5;
 

@@ -1,0 +1,43 @@
+"""Which corners the cases of a run reached: the marks that the rival gives each case, and the kinds that were drawn."""
+from collections import Counter
+
+JUDGED_FROM = 2000  # fewer cases need not reach every corner
+
+
+class Coverage:
+    def __init__(self, titles, groups):
+        """The marks that are to be reached, in lines with a title, and the groups of which each corner is a kind."""
+        self.titles = titles
+        self.all_kinds = [f"{group}/{corner}" for group, corners in groups.items() for corner in corners]
+        self.marks, self.kinds = Counter(), Counter()
+
+    def add(self, cases, lines):
+        """Counts cases with the line of marks of each."""
+        for case, line in zip(cases, lines):
+            self.marks.update(line.split())
+            self.kinds[case.kind] += 1
+
+    def print_marks(self):
+        for title, marks in self.titles.items():
+            print(f"  {title:24}", "  ".join(f"{mark} {self.marks[mark]}" for mark in marks))
+        known = {mark for marks in self.titles.values() for mark in marks}
+        others = sorted(mark for mark in self.marks if mark not in known)
+        if others:
+            print(f"  {'other marks':24}", "  ".join(f"{mark} {self.marks[mark]}" for mark in others))
+
+    def print_kinds(self, title, start=""):
+        """Those whose group begins so."""
+        drawn = [self.kinds[kind] for kind in self.all_kinds if kind.startswith(start)]
+        print(f"  {title:24} {sum(1 for count in drawn if count)} of {len(drawn)}, the rarest {min(drawn)} times")
+
+    def never_reached(self):
+        missed = [mark for marks in self.titles.values() for mark in marks if self.marks[mark] == 0]
+        return missed + [kind for kind in self.all_kinds if self.kinds[kind] == 0]
+
+    def failure(self, count, what):
+        """The words of what so many cases never reached, or none."""
+        if count < JUDGED_FROM:
+            print(f"coverage is not judged below {JUDGED_FROM} {what}")
+            return ""
+        missed = self.never_reached()
+        return f"never reached: {', '.join(missed)}" if missed else ""

@@ -1,0 +1,147 @@
+"""Both programs over the same cases: they must agree, and a difference is told with all that is needed to repeat it.
+
+A SheetRun settles sheets, a ListRun applies lists of transfers to sheets. What must hold of each answer by itself is
+checked here too.
+"""
+import re
+from pathlib import Path
+
+import lists
+import transfers
+import programs
+import sheets
+from records import field_at, result_figures, row_volumes
+
+
+CHUNK = 500  # cases that the programs are given at a time
+
+
+class Difference(Exception):
+    """The two programs differ, or one of them breaks a rule that the answers must keep."""
+
+
+def answer_text(answer):
+    return f"refusal {answer}" if isinstance(answer, int) else f"{len(answer)} bytes"
+
+
+class Run:
+    """One set of cases, answered by both programs in chunks. Its files are kept only in a folder that was asked for."""
+
+    answer_command, marks_command = None, None    # the rival's
+
+    def __init__(self, name, seed, folder, keep):
+        self.name, self.seed, self.folder, self.keep = name, seed, Path(folder), keep
+
+    def answers(self, start, cases):
+        """The answers on which both programs agree, and the rival's marks."""
+        files = {part: self.folder / f"{self.name}-{start:06}.{part}" for part in ("cases", "rival", "module", "marks")}
+        programs.write_cases(files["cases"], cases)
+        for part, words in (("rival", [programs.RIVAL, self.answer_command, files["cases"], files["rival"]]),
+                            ("marks", [programs.RIVAL, self.marks_command, files["cases"], files["marks"]]),
+                            ("module", [self.driver(), files["cases"], files["module"], start])):
+            status, printed = programs.run_program(words)
+            if status != 0:
+                self.stopped(part, status, printed, start, cases)
+        by_rival, by_module = (programs.read_answers(files[part], len(cases)) for part in ("rival", "module"))
+        self.compare(start, cases, by_rival, by_module)
+        marks = files["marks"].read_text().splitlines()
+        if len(marks) != len(cases):
+            raise programs.Trouble(f"{files['marks']} does not hold the marks of {len(cases)} cases")
+        if not self.keep:
+            for file in files.values():
+                file.unlink()
+        return by_rival, marks
+
+    def stopped(self, part, status, printed, start, cases):
+        found = re.search(r"case (\d+)", printed)
+        if part == "module" and status == 1 and found:
+            index = int(found.group(1))
+            raise self.report(index, cases[index - start], printed)
+        program = "module" if part == "module" else "rival"
+        raise Difference(f"compare: seed {self.seed}, {self.name} {start} to {start + len(cases) - 1}: "
+                         f"the {program} did not answer, it ended with status {status}\n{printed}")
+
+    def compare(self, start, cases, by_rival, by_module):
+        for index, (case, rival, module) in enumerate(zip(cases, by_rival, by_module), start):
+            if rival != module:
+                raise self.report(index, case, self.difference_text(case, rival, module))
+            intended = self.intended_refusal(case.kind)
+            answered = rival if isinstance(rival, int) else 0
+            if intended is not None and answered != intended:
+                wanted = f"refusal {intended}" if intended else "no refusal"
+                raise self.report(index, case, f"drawn for {wanted}, but both programs answer {answer_text(rival)}")
+            if answered == 0:
+                wrong = self.wrong_in(case, rival)
+                if wrong:
+                    raise self.report(index, case, wrong)
+
+    def difference_text(self, case, rival, module):
+        lines = [f"rival:  {answer_text(rival)}", f"module: {answer_text(module)}"]
+        if isinstance(rival, bytes) and isinstance(module, bytes):
+            place = next((place for place, (one, other) in enumerate(zip(rival, module)) if one != other), None)
+            if place is not None:
+                lines.append(f"first differing byte: {place} ({self.field_at(case, place)}), "
+                             f"rival {rival[place]}, module {module[place]}")
+        return "\n".join(lines)
+
+    def report(self, index, case, words):
+        """Saves the case for repeating, and gives the words of a difference with all that is needed to repeat it."""
+        saved = programs.OUT / f"seed-{self.seed}-{self.name}-{index}"
+        sheet, whole = saved.with_suffix(".sheet"), saved.with_suffix(".case")
+        programs.write_file(sheet, case.sheet)
+        programs.write_file(whole, case.to_bytes())
+        return Difference(f"compare: seed {self.seed}, {self.name} {index}, kind {case.kind}\n"
+                          f"sheet: {sheet} ({len(case.sheet)} bytes)\n{self.beside(saved, case)}\n"
+                          f"both as a case: {whole}\n{words}")
+
+
+class SheetRun(Run):
+    answer_command, marks_command = "batch", "marks"
+
+    def driver(self):
+        return programs.MODULE
+
+    def intended_refusal(self, kind):
+        return sheets.intended_refusal(kind)
+
+    def field_at(self, case, place):
+        return field_at(case.sheet, place)
+
+    def beside(self, saved, case):
+        return f"buffer length: {case.buffer}"
+
+    def wrong_in(self, case, result):
+        """The last sentence of demand 3: actual volume ≤ volume after the cut ≤ the sheet's volume."""
+        rows, _, _ = result_figures(case.sheet, result)
+        for number, (row, volume) in enumerate(zip(rows, row_volumes(case.sheet))):
+            if not row.actual <= row.after_cut <= volume:
+                return (f"demand 3: row {number} has volume {volume} in the sheet, "
+                        f"{row.after_cut} after the cut, and actual volume {row.actual}")
+        return ""
+
+
+class ListRun(Run):
+    answer_command, marks_command = "transfers", "transfermarks"
+
+    def driver(self):
+        return programs.TRANSFERS
+
+    def intended_refusal(self, kind):
+        return transfers.intended_refusal(kind)
+
+    def field_at(self, case, place):
+        return lists.field_at(case.sheet, place)
+
+    def beside(self, saved, case):
+        file = saved.with_suffix(".list")
+        programs.write_file(file, case.list)
+        return f"list: {file} ({len(case.list)} bytes)"
+
+    def wrong_in(self, case, after):
+        """The sum of contract volumes is the same, and no other byte is touched."""
+        volumes, moved = lists.contract_volumes(case.sheet), lists.contract_volumes(after)
+        if sum(volumes) != sum(moved):
+            return f"the contract volumes add up to {sum(volumes)} before the list and to {sum(moved)} after it"
+        if lists.with_contract_volumes(case.sheet, moved) != after:
+            return "another byte than those of the contract volumes has changed"
+        return ""

@@ -1,0 +1,112 @@
+"""The second half of a run: both programs apply lists of transfers to sheets, and the sheets that come out are settled.
+
+Of every list that is applied, beside what ListRun checks: the sheet is accepted before and after, with the same room.
+And of pairs of sheets as in demand 3: one list gets the same answer from both, and demand 3 holds of them afterwards.
+"""
+import sheets
+import transfers
+from coverage import Coverage
+from demand_3 import check_pairs, moved_in
+from lists import contract_volumes
+from records import result_length
+from refused_lists import OF_SHEET
+from running import CHUNK, ListRun, SheetRun, answer_text
+
+MARKS = {
+    "refusals of the sheet": [f"N{number}" for number in OF_SHEET],
+    "13": ["N13"] + [f"13{cause}" for cause in (
+        "short", "length", "multiple", "version", "day0", "dayabove", "giver", "taker", "same", "behind14")],
+    "14": ["N14", "day21", "day31"],
+    "15": ["N15"] + [f"15{cause}" for cause in ("giver", "taker", "late", "first", "hundredthousandandone")],
+    "applied": ["done", "entries0", "entries1", "entriesmany", "day1", "day20", "amount0", "takerfull", "giverempty",
+                "chain", "repeated"],
+}
+
+# ------------------------------------------------------------------ lists and their coverage
+
+
+def exact_case(kind, sheet):
+    """A sheet to be settled into just as much room as its result needs."""
+    return sheets.Case(kind, sheet, result_length(sheet[12], sheet[13]))
+
+
+def settle_applied(run, start, cases, answers):
+    """Each sheet that a list was applied to, before and after it: both are to be accepted with the same room."""
+    settled = []
+    for case, after in zip(cases, answers):
+        if isinstance(after, bytes):
+            settled += exact_case("list/before", case.sheet), exact_case("list/after", after)
+    run.answers(start, settled)
+    return len(settled) // 2
+
+
+def compare_lists(run, settling, count):
+    coverage, applied = Coverage(MARKS, transfers.GROUPS), 0
+    for start in range(0, count, CHUNK):
+        cases = list(transfers.cases(run.seed, min(CHUNK, count - start), start))
+        answers, marks = run.answers(start, cases)
+        coverage.add(cases, marks)
+        applied += settle_applied(settling, 2 * applied, cases, answers)
+    print(f"lists: {applied} of {count} applied; the sum of contract volumes kept, the sheet accepted in the same room")
+    return coverage
+
+
+def print_coverage(coverage):
+    print("coverage, in lists:")
+    coverage.print_marks()
+    coverage.print_kinds("causes of refusals", ("sheet_", "list_"))
+    coverage.print_kinds("two numbers at once", "several_rules/")
+    coverage.print_kinds("all kinds")
+
+
+# ------------------------------------------------------------------ demand 3
+
+
+def sheet_after(case, answer):
+    """What stands in the sheet's bytes afterwards: after a refusal the sheet."""
+    return case.sheet if isinstance(answer, int) else answer
+
+
+def check_same_answer(run, start, cases, answers):
+    """One list, two sheets that differ only as demand 3 says: the same refusal, or the same contract volumes."""
+    for place in range(0, len(cases), 2):
+        first, second = answers[place:place + 2]
+        if isinstance(first, bytes) and isinstance(second, bytes):
+            first, second = contract_volumes(first), contract_volumes(second)
+        if first != second:
+            run.report(start + place, cases[place], "")
+            told = " and ".join(answer_text(answer) for answer in answers[place:place + 2])
+            raise run.report(start + place + 1, cases[place + 1],
+                             f"one list for two sheets as in demand 3, but answers or contract volumes differ: {told}\n"
+                             f"the sheet named is the second of the pair; "
+                             f"the first was saved with the number before it")
+
+
+def compare_pairs(run, settling, count):
+    """Applies one list to two sheets and checks demand 3 afterwards. Gives how many pairs had a figure that moved."""
+    moved = 0
+    for start in range(0, count, CHUNK):
+        pairs = transfers.pairs(run.seed, min(CHUNK, count - start), start)
+        cases = [transfers.ListCase(pair.kind, sheet, pair.list)
+                 for pair in pairs for sheet in (pair.first, pair.second)]
+        answers, _ = run.answers(2 * start, cases)
+        check_same_answer(run, 2 * start, cases, answers)
+        settled = [exact_case(case.kind, sheet_after(case, answer)) for case, answer in zip(cases, answers)]
+        results, _ = settling.answers(2 * start, settled)
+        moved += check_pairs(settling, 2 * start, settled, results)
+    return moved
+
+
+# ------------------------------------------------------------------ both
+
+
+def compare_transfers(options, folder):
+    """Gives the words of what failed without being a difference, or none."""
+    where = options.seed, folder, options.keep
+    coverage = compare_lists(ListRun("list", *where), SheetRun("list-sheet", *where), options.lists)
+    print_coverage(coverage)
+    failed = coverage.failure(options.lists, "lists")
+    if failed:
+        return failed
+    moved = compare_pairs(ListRun("pair-list", *where), SheetRun("pair-list-sheet", *where), options.list_pairs)
+    return moved_in(moved, options.list_pairs, "pairs with a list")
