@@ -103,7 +103,7 @@ mul-volumes : tie.Need-mul-volumes Inv-loop μ-loop
 mul-volumes c = search needs
 
 element-write-volumes : tie.Need-element-write-volumes Inv-loop μ-loop
-element-write-volumes c = named (c .before .before .before .before .before .before .before) .giver
+element-write-volumes c = omega (arith, named (c .before .before .before .before .before .before .before) .giver, named (c .before .before .before .before .before .before .before) .taker)
 
 add-volumes : tie.Need-add-volumes Inv-loop μ-loop
 add-volumes c = omega (arith, fits (c .before .before) .1)
@@ -112,7 +112,7 @@ mul-volumes-2 : tie.Need-mul-volumes-2 Inv-loop μ-loop
 mul-volumes-2 c = search needs
 
 element-write-volumes-2 : tie.Need-element-write-volumes-2 Inv-loop μ-loop
-element-write-volumes-2 c = named (c .before .before .before .before .before .before .before .before) .taker
+element-write-volumes-2 c = omega (arith, named (c .before .before .before .before .before .before .before .before) .giver, named (c .before .before .before .before .before .before .before .before) .taker)
 
 add-i : tie.Need-add-i Inv-loop μ-loop
 add-i c = omega arith
