@@ -87,7 +87,8 @@ def test_readmes():
     for kind, name in (("toml", "small.toml"), ("", "small.listing")):
         check(f"```{kind}\n{(EXAMPLES / name).read_text()}```\n" in readme, f"tools/README.md has {name}")
     keys = [field.key for field in (*records.PRODUCER_FIELDS, *records.ROW_FIELDS, *records.CONSUMER_FIELDS)]
-    for key in (*keys, *monthtext.TOP_KEYS[:5], "name", "hours", monthtext.CSV_HEAD, *forms.COLUMNS):
+    for key in (*keys, *monthtext.TOP_KEYS[:5], "name", "hours", monthtext.csv_head(records.HOUR_FIELDS),
+                *forms.COLUMNS):
         check(f"`{key}`" in readme, f"tools/README.md names {key}")
     usage = run(ROOT / "settle", "--help").stdout.decode()
     for option in ("--table", "--csv", "--json", "--explain", "--result", "--force", "--strict", "--version"):
