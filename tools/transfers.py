@@ -147,9 +147,10 @@ def day_faults(day):
 
 def name_faults(transfer, consumers):
     """What 13 finds in an entry's names."""
+    there = f"consumers 0 to {consumers - 1}" if consumers else "no consumer"
     for key in ("giver", "taker"):
         if getattr(transfer, key) >= consumers:
-            yield 13, key, f"the sheet has {consumers} consumers, numbered from 0"
+            yield 13, key, f"the sheet has {there}"
     if transfer.giver == transfer.taker:
         yield 13, "taker", "the giver of this entry"
 

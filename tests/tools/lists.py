@@ -93,8 +93,8 @@ all               90.0  145.5  145.5   90.0
 EXPLAINED = [
     ("0,0,1,1", 13, "entry 0, day filed, 0 (from 1 to 31)"),
     ("32,0,1,1", 13, "entry 0, day filed, 32 (from 1 to 31)"),
-    ("1,2,1,1", 13, "entry 0, giver, 2 (the sheet has 2 consumers, numbered from 0)"),
-    ("1,0,255,1", 13, "entry 0, taker, 255 (the sheet has 2 consumers, numbered from 0)"),
+    ("1,2,1,1", 13, "entry 0, giver, 2 (the sheet has consumers 0 to 1)"),
+    ("1,0,255,1", 13, "entry 0, taker, 255 (the sheet has consumers 0 to 1)"),
     ("1,1,1,1", 13, "entry 0, taker, 1 (the giver of this entry)"),
     ("21,0,1,1", 14, "entry 0, day filed, 21 (at most 20)"),
     ("31,0,1,1", 14, "entry 0, day filed, 31 (at most 20)"),
@@ -105,7 +105,7 @@ EXPLAINED = [
     ("20,0,1,9970.1", 15,
      "entry 0, amount, 9970.1 MW (at its turn the giver, consumer 0 (Copper works), has 60.0)"),
     # A later number in front of an earlier one: the number that is tried first is told.
-    ("21,0,1,99\n1,0,2,1", 13, "entry 1, taker, 2 (the sheet has 2 consumers, numbered from 0)"),
+    ("21,0,1,99\n1,0,2,1", 13, "entry 1, taker, 2 (the sheet has consumers 0 to 1)"),
     ("20,0,1,99\n21,0,1,1", 14, "entry 1, day filed, 21 (at most 20)"),
 ]
 
@@ -115,7 +115,7 @@ refusal 13: the list's length or version is wrong, or an entry's day is not 1 to
 of the sheet
   wrong.csv, line 2: entry 0, day filed, 0 (from 1 to 31)
   wrong.csv, line 3: entry 1, taker, 1 (the giver of this entry)
-  wrong.csv, line 5: entry 3, giver, 3 (the sheet has 2 consumers, numbered from 0)
+  wrong.csv, line 5: entry 3, giver, 3 (the sheet has consumers 0 to 1)
 refusal 14: an entry was filed after day 20
   wrong.csv, line 3: entry 1, day filed, 25 (at most 20)
   wrong.csv, line 4: entry 2, day filed, 21 (at most 20)
@@ -233,7 +233,7 @@ def test_shown(folder):
     said = done.stdout.decode()
     check(said.startswith("named.csv:\n") and "\na.list:\n" in said and said.endswith(
         "\nNot applied:\nrefusal 13: " + refusals.RULES[13] + "\n"
-        "a.list, byte 14: entry 1, taker, 2 (the sheet has 2 consumers, numbered from 0)\n"),
+        "a.list, byte 14: entry 1, taker, 2 (the sheet has consumers 0 to 1)\n"),
         "show --transfers: two lists, the second refused", words_of(done))
     done = sheet("show", "--transfers", "named.csv", EXAMPLES / "refused-2.sheet", folder=folder)
     check(done.returncode == 0 and b"\nNot applied:\nrefusal 2: " in done.stdout, "show --transfers: a refused sheet",
@@ -263,6 +263,10 @@ def test_explained(folder):
         check(done.stdout.decode().splitlines()[1] == f"bad.list, {words}", f"explain: {words}", words_of(done))
         done = sheet("explain", "--transfers", "bad.list", EXAMPLES / "refused-9.toml", folder=folder)
         check(done.stdout.startswith(b"refusal 9: "), "explain: the sheet's numbers come first", words_of(done))
+    nobody = records.Sheet(records.Month(28, 1, 0), [], [], []).to_bytes()
+    done = sheet("explain", "--transfers", "list.csv", "-", folder=folder, stdin=nobody)
+    check(done.stdout.decode().splitlines()[1] == "list.csv, line 2: entry 0, giver, 0 (the sheet has no consumer)",
+          "explain: no consumer", words_of(done))
     two = records.Sheet(records.Month(28, 1, 0), [], [], [records.Consumer(volume, 0, 0, 0, 10, 0)
                                                         for volume in (60_000, 60_000)]).to_bytes()
     (folder / "a.list").write_bytes(transfers.list_bytes([Transfer(1, 0, 1, 40_000), Transfer(1, 0, 1, 1)]))

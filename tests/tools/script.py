@@ -330,8 +330,7 @@ def test_transfers(folder):
                   words_of(done))
     for suffix, where in (("list", "byte 21"), ("csv", "line 4")):
         done = house.settle("--explain", "--transfers", f"refused-13.{suffix}", "month.sheet", folder=EXAMPLES)
-        line = (f"month.sheet: refused-13.{suffix}, {where}: entry 2, taker, 32 (the sheet has 32 consumers, numbered "
-                "from 0)")
+        line = f"month.sheet: refused-13.{suffix}, {where}: entry 2, taker, 32 (the sheet has consumers 0 to 31)"
         check(done.stdout == b"N13\n" and done.stderr.decode().splitlines()[1] == line,
               f"settle --explain --transfers: {suffix}", words_of(done))
     done = house.settle("--sheet", "-new", "--result=new.bin", "--transfers", "examples/transfers.list", month)
