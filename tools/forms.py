@@ -23,15 +23,17 @@ COLUMNS = ("month", "record", "row", "producer", "producer_name", "consumer", "c
 class Refused(NamedTuple):
     number: int      # the program's
     words: str
-    byte: int        # and field: None where the aid in refusals.py has another answer than the program
+    byte: int        # and what follows: None where the aid in refusals.py has another answer than the program
     field: str
+    line: str        # the field with its place, for people
 
 
 class Answer(NamedTuple):
-    given: Given
+    given: Given         # the month as it was settled: after its lists of transfers
     listing: str         # as the program printed it
     refused: Refused     # or None,
     result: bytes        # and then these are the result's bytes, laid out from the listing
+    lists: tuple = ()    # the names of the lists
 
 
 # ------------------------------------------------------------------ records with names and figures
@@ -74,7 +76,7 @@ def month_lines(answer):
     given, refused = answer.given, answer.refused
     if refused:
         lines = [f"{given.name}: refused by {refused.number}: {refused.words}"]
-        return lines + ([f"{given.byte_words(refused.byte)}{refused.field}"] if refused.field else [])
+        return lines + ([refused.line] if refused.line else [])
     by_row, by_consumer, totals = records_of(answer)
     parties = [party_cells(row, given.names) for row in Sheet.from_bytes(given.content).rows]
     rows = [[str(row["row"]), *party, *(parted(row[key]) for key in (
@@ -84,7 +86,8 @@ def month_lines(answer):
         "contract_volume", "peak", "credit", "percent", "n", "actual_volume", "price", "charge"))]
         for consumer in by_consumer]
     consumers.append(["total charged", *[""] * 7, parted(totals["charged"])])
-    return [f"{given.name}: {given.title or month_words(given.content)}", "", *headed(ROW_HEADS, rows, (1, 2)), "",
+    title = ", after ".join([given.title or month_words(given.content), *answer.lists])
+    return [f"{given.name}: {title}", "", *headed(ROW_HEADS, rows, (1, 2)), "",
             *headed(CONSUMER_HEADS, consumers, (0,))]
 
 
@@ -104,9 +107,9 @@ def parted(text):
     return f"{int(whole):,}".replace(",", " ") + point + part
 
 
-def name_in_utf8(answer):
-    """The month's name for programs; a byte of a file's name that is no text is written as \\udcff."""
-    return answer.given.name.encode("utf-8", "backslashreplace").decode()
+def in_utf8(text):
+    """A text with a file's name, for programs; a byte of the name that is no text is written as \\udcff."""
+    return text and text.encode("utf-8", "backslashreplace").decode()
 
 
 def as_csv(answers):
@@ -115,10 +118,10 @@ def as_csv(answers):
     lines = csv.DictWriter(text, COLUMNS, lineterminator="\n")
     lines.writeheader()
     for answer in answers:
-        month, refused = name_in_utf8(answer), answer.refused
+        month, refused = in_utf8(answer.given.name), answer.refused
         if refused:
             lines.writerow({"month": month, "record": "refusal", "refusal": refused.number, "words": refused.words,
-                            "byte": refused.byte, "field": refused.field})
+                            "byte": refused.byte, "field": in_utf8(refused.field)})
             continue
         by_row, by_consumer, totals = records_of(answer)
         for record, found in (("row", by_row), ("consumer", by_consumer),
@@ -132,8 +135,10 @@ def as_json(answers):
     months = []
     for answer in answers:
         rows, consumers, totals = ([], [], None) if answer.refused else records_of(answer)
-        refusal = answer.refused and dict(zip(("number", "words", "byte", "field"), answer.refused))
-        months.append({"month": name_in_utf8(answer), "refusal": refusal, "rows": rows, "consumers": consumers,
+        refused = answer.refused
+        refusal = refused and {"number": refused.number, "words": refused.words, "byte": refused.byte,
+                               "field": in_utf8(refused.field)}
+        months.append({"month": in_utf8(answer.given.name), "refusal": refusal, "rows": rows, "consumers": consumers,
                        "totals": totals})
     return json.dumps(months, indent=1) + "\n"
 

@@ -17,9 +17,13 @@ class Given(NamedTuple):
     files: list        # that were read
     is_text: bool
 
-    def byte_words(self, place):
-        """The place in front of a field; whoever keeps a text does not count bytes."""
-        return "" if self.is_text else f"byte {place}: "
+    def byte_words(self, refusal):
+        """The place in front of a field; whoever keeps a text does not count bytes. A list's field has its own."""
+        return "" if self.is_text or refusal.source else f"byte {refusal.place}: "
+
+    def words(self, refusal):
+        """The field that breaks a rule, with its place and what is wrong with it."""
+        return self.byte_words(refusal) + refusal.field(self.names)
 
 
 def is_text(path):

@@ -17,7 +17,6 @@ from records import (BUYER, CONSUMER_FIELDS, DAYS, HEADER_FIELDS, HOUR_FIELDS, H
                      PRODUCER_NUMBER, ROW_FIELDS, SINGLE_BUYER, SINGLE_BUYER_WORDS, Consumer, Month, Producer, Row,
                      Sheet)
 
-CSV_HEAD = ",".join(field.key for field in HOUR_FIELDS)
 MONTH_FIELDS = [field for field in HEADER_FIELDS if field.key in ("days", "weekday")]
 TOP_KEYS = ("year", "month", "days", "weekday", "holidays", "producer", "row", "consumer")
 MOST_RECORDS = 255      # that a count byte holds
@@ -321,36 +320,62 @@ def read_hours(table, month, path, files, faults):
 
 
 def read_csv(path, hours):
-    """The powers of a CSV file: the head, then a line for each hour of the month; hours is None if that is unknown."""
-    lines = read_text(path).split("\n")
+    """The powers of a CSV file with a line for each hour of the month; hours is None if that is unknown."""
+    lines = csv_lines(path, HOUR_FIELDS)
+    if len(lines) != hours and hours is not None:
+        raise Trouble(f"{path}: has {len(lines)} lines after the head; the month has {hours} hours")
+    powers = [array("I") for _ in HOUR_FIELDS]
+    for figures in csv_figures(path, lines, HOUR_FIELDS):
+        for series, figure in zip(powers, figures):
+            series.append(figure)
+    return powers
+
+
+# ------------------------------------------------------------------ CSV files
+
+
+def csv_head(fields):
+    return ",".join(field.key for field in fields)
+
+
+def csv_lines(path, fields):
+    """The lines of a CSV file after its head, which has the fields' keys."""
+    lines, head = read_text(path).split("\n"), csv_head(fields)
     if lines[-1] == "":
         lines.pop()
-    if not lines or lines[0].replace(" ", "").rstrip("\r") != CSV_HEAD:
-        raise Trouble(f"{path}, line 1: is not {CSV_HEAD}")
-    if len(lines) - 1 != hours and hours is not None:
-        raise Trouble(f"{path}: has {len(lines) - 1} lines after the head; the month has {hours} hours")
-    powers, faults = [array("I") for _ in HOUR_FIELDS], Faults()
-    for number, line in enumerate(lines[1:], 2):
+    if not lines or lines[0].replace(" ", "").rstrip("\r") != head:
+        raise Trouble(f"{path}, line 1: is not {head}")
+    return lines[1:]
+
+
+def csv_figures(path, lines, fields):
+    """The figures of each line after the head."""
+    found, faults = [], Faults()
+    for number, line in enumerate(lines, 2):
         with faults.part(), at(f"{path}, line {number}"):
-            for series, figure in zip(powers, read_line(line)):
-                series.append(figure)
+            found.append(read_line(line, fields))
     more = len(faults.lines) - MOST_LINES
     if more > 0:
         faults.lines[MOST_LINES:] = [f"{path}: more lines that are wrong: {more}"]
     faults.tell()
-    return powers
+    return found
 
 
-def read_line(line):
-    """The powers of an hour."""
+def read_line(line, fields):
     cells = line.split(",")
-    if len(cells) != len(HOUR_FIELDS):
-        raise Trouble(f"has not {len(HOUR_FIELDS)} figures with commas between them")
+    if len(cells) != len(fields):
+        raise Trouble(f"has not {len(fields)} figures with commas between them")
     figures = []
-    for field, cell in zip(HOUR_FIELDS, cells):
+    for field, cell in zip(fields, cells):
         with at(field.key):
             figures.append(figure_of(cell, field))
     return figures
+
+
+def csv_text(lines, fields=HOUR_FIELDS):
+    """The text of a CSV file with these figures in each line after the head."""
+    texts = [",".join(field.unit.text(figure) for field, figure in zip(fields, figures)) for figures in lines]
+    return "\n".join([csv_head(fields), *texts, ""])
 
 
 # ------------------------------------------------------------------ from a sheet to text
@@ -405,11 +430,6 @@ def table_lines(kind, number, fields, record):
             text = f'"{text}"'
         lines.append(f"{field.key} = {text}\n")
     return lines
-
-
-def csv_text(hours):
-    lines = [",".join(field.unit.text(figure) for field, figure in zip(HOUR_FIELDS, powers)) for powers in hours]
-    return "\n".join([CSV_HEAD, *lines, ""])
 
 
 def quoted(text):

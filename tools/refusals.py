@@ -1,6 +1,7 @@
 """Why a sheet is refused: every number that applies, in the order in which they are tried, with the fields.
 
 An aid for people. What holds is the answer of the proved program; number 7 is about the result buffer, not the sheet.
+The numbers of a list of transfers have their turn and their words here too; transfers.py tries them.
 """
 from typing import NamedTuple
 
@@ -14,6 +15,10 @@ HANDED_OVER = 65_536    # bytes of a longer input that the program takes
 # in this list and never by size: a number added later stands where it is tried.
 TRIED = (1, 2, 3, 4, 5, 6, 7, 8, 9, 10, 11, 12)
 BUFFER_NUMBER = 7       # the result buffer is shorter than the result
+# The same for a list of transfers. A settlement never meets them; where a list is applied to a sheet, they are tried
+# after all of the sheet's save 7.
+TRIED_IN_LIST = (13, 14, 15)
+LAST_FILING_DAY = 20
 
 RULES = {
     1: f"the sheet has fewer than {HEADER} bytes",
@@ -28,12 +33,17 @@ RULES = {
     10: "a row names a producer or a consumer that the sheet does not have",
     11: f"a price is above {PRICE.text(TOP_PRICE)} tenge",
     12: f"mining days are above the days of the month, or z is outside {Z.text(LOWEST_Z)} to {Z.text(TOP_Z)}",
+    13: "the list's length or version is wrong, or an entry's day is not 1 to 31, or it does not name two consumers of "
+        "the sheet",
+    14: f"an entry was filed after day {LAST_FILING_DAY}",
+    15: "at its turn, an entry asks more than its giver has, or brings its taker above "
+        f"{CAPACITY.text(TOP_CAPACITY)} MW",
 }
 
 
 def turn(number):
     """The place of a number in the order in which they are tried."""
-    return TRIED.index(number)
+    return (*TRIED, *TRIED_IN_LIST).index(number)
 
 
 def tried_before(number):
@@ -60,6 +70,7 @@ class Refusal(NamedTuple):
     entry: Entry = None     # any other field,
     allowed: str = ""       # and what is allowed there
     remark: str = ""
+    source: str = ""        # where it stands, if not in the sheet: a list's name, with the line or the byte
 
     @property
     def rule(self):
@@ -68,24 +79,24 @@ class Refusal(NamedTuple):
     def field(self, names=None):
         """The field and what is wrong with it."""
         if self.entry is None:
-            return self.said + self.remark
-        return f"{self.entry.where(names)}, {self.figure()}{self.remark}"
+            return f"{self.source}{self.said}{self.remark}"
+        return f"{self.source}{self.entry.where(names)}, {self.figure()}{self.remark}"
 
     def figure(self):
         unit = self.entry.field.unit
         return f"{f'{unit.text(self.entry.figure)} {unit.symbol}'.rstrip()} ({self.allowed})"
 
 
-def field_places():
-    """The header's fields by key, each with its place."""
+def field_places(fields):
+    """The fields of a record by key, each with its place."""
     place, found = 0, {}
-    for field in HEADER_FIELDS:
+    for field in fields:
         found[field.key] = place, field
         place += field.width
     return found
 
 
-HEADER_PLACES = field_places()
+HEADER_PLACES = field_places(HEADER_FIELDS)
 
 
 def header_refusal(number, key, words):

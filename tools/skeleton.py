@@ -2,7 +2,7 @@
 import calendar
 import os
 
-from monthtext import CSV_HEAD, quoted, text_bytes
+from monthtext import csv_text, quoted, text_bytes
 from records import CAPACITY, COEFFICIENT, CONSUMER_FIELDS, PRICE, PRODUCER_FIELDS, ROW_FIELDS, SINGLE_BUYER_WORDS, Z
 
 HEAD = """\
@@ -22,7 +22,7 @@ REMARKS = {
     "supplier_mining_days": "T'', days", "grid_mining_days": "T''', days", "volume": "MW",
     "price": "tenge per MW and month", "consumer": f'its number; "{SINGLE_BUYER_WORDS}" is a support row',
 }
-EMPTY_HOUR = ",".join([CAPACITY.text(0)] * 3)
+EMPTY_HOUR = 0, 0, 0
 
 
 def skeleton_files(year, month, path, counts):
@@ -33,7 +33,7 @@ def skeleton_files(year, month, path, counts):
                                     year=year, month=month)]
     for number in range(producers):
         file = f"{os.path.splitext(path)[0]}-producer-{number}.csv"
-        files[file] = "\n".join([CSV_HEAD, *[EMPTY_HOUR] * (24 * days), ""]).encode()
+        files[file] = csv_text([EMPTY_HOUR] * (24 * days)).encode()
         parts += table("producer", number, PRODUCER_FIELDS)
         parts.append(f"hours = {quoted(os.path.basename(file))}  # MW, a line for each of the {24 * days} hours\n")
     for number in range(rows):

@@ -12,7 +12,7 @@ import results
 from checks import EXAMPLES, PROGRAM, REPORT, check, files_in, report, turned_down, words_of
 from texts import GOOD, changed
 
-LISTINGS = {path.stem: path.read_text() for path in EXAMPLES.glob("*.listing")}
+LISTINGS = {path.stem: path.with_suffix(".listing").read_text() for path in EXAMPLES.glob("*.sheet")}
 SETTLED = [name for name, listing in LISTINGS.items() if not listing.startswith("N")]
 NAMES = [("[[producer]]", '[[producer]]\nname = "ТОО «Север», 1"'),
          ("[[consumer]]", '[[consumer]]\nname = "a \\"b\\""')]

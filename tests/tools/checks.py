@@ -12,6 +12,7 @@ ROOT = Path(__file__).resolve().parents[2]
 SHEET = ROOT / "tools" / "sheet"
 REPORT = ROOT / "tools" / "report"
 PROGRAM = ROOT / "target" / "bin" / "settle"
+TRANSFER_PROGRAM = ROOT / "target" / "bin" / "transfer_sheet"
 EXAMPLES = ROOT / "examples"
 
 passed = failed = 0
@@ -59,9 +60,9 @@ def sheet(*words, **more):
     return run_here(SHEET, *words, **more)
 
 
-def report(*words, program=PROGRAM, **more):
+def report(*words, program=PROGRAM, transfer_program=TRANSFER_PROGRAM, **more):
     """tools/report, in this process."""
-    return run_here(REPORT, "--program", program, *words, **more)
+    return run_here(REPORT, "--program", program, "--transfer-program", transfer_program, *words, **more)
 
 
 def run_here(command, *words, stdin=b"", folder=None):

@@ -8,6 +8,7 @@ import forms
 import monthtext
 import programs
 import records
+import transfers
 from checks import EXAMPLES, PROGRAM, ROOT, check, files_in, report, run, sheet, words_of
 
 
@@ -31,6 +32,29 @@ def test_examples(folder):
         check(done.returncode == 0 and done.stdout.startswith(answer.encode()), f"explain: {name}", words_of(done))
         if not listing.startswith(b"N"):
             test_result(name, source, listing, folder)
+
+
+def test_lists(folder):
+    """Each list's text packs to its bytes and comes back from them; explain on each has the rival's number."""
+    month, names = EXAMPLES / "month.sheet", sorted(path.stem for path in EXAMPLES.glob("*.list"))
+    check(names == ["refused-13", "refused-14", "refused-15", "transfers"], f"examples: the lists are {names}")
+    for name in names:
+        text, packed = EXAMPLES / f"{name}.csv", EXAMPLES / f"{name}.list"
+        done = sheet("pack", text, "-")
+        check(done.stdout == packed.read_bytes(), f"examples: {name}.csv packs to {name}.list", words_of(done))
+        done = sheet("unpack", packed, folder / f"{name}.csv")
+        check((folder / f"{name}.csv").read_text() == text.read_text(), f"examples: {name}.list unpacks to {name}.csv",
+              words_of(done))
+        listing = EXAMPLES / f"{name}.listing"
+        refused, printed = listing.is_file(), run(programs.RIVAL, "transfer", month, packed).stdout.decode()
+        wanted = (f"refusal {listing.read_text()[1:]}" if refused else
+                  f"bytes {month.stat().st_size} {(EXAMPLES / 'month-transferred.sheet').read_bytes().hex()}\n")
+        check(printed == wanted, f"examples: {name}.list by the rival", printed[:200])
+        for each in (text, packed):
+            done = sheet("explain", "--transfers", each, month)
+            answer = f"refusal {listing.read_text()[1:].strip()}:" if refused else "accepted\n"
+            check(done.returncode == 0 and done.stdout.decode().startswith(answer), f"explain: {each.name}",
+                  words_of(done))
 
 
 def test_proved(folder):
@@ -84,18 +108,21 @@ def test_show_and_explain():
 def test_readmes():
     """The example of tools/README.md is the one that is tested here, and every key is named there."""
     readme = (ROOT / "tools" / "README.md").read_text()
-    for kind, name in (("toml", "small.toml"), ("", "small.listing")):
+    for kind, name in (("toml", "small.toml"), ("", "small.listing"), ("csv", "transfers.csv")):
         check(f"```{kind}\n{(EXAMPLES / name).read_text()}```\n" in readme, f"tools/README.md has {name}")
-    keys = [field.key for field in (*records.PRODUCER_FIELDS, *records.ROW_FIELDS, *records.CONSUMER_FIELDS)]
-    for key in (*keys, *monthtext.TOP_KEYS[:5], "name", "hours", monthtext.CSV_HEAD, *forms.COLUMNS):
+    keys = [field.key for field in (*records.PRODUCER_FIELDS, *records.ROW_FIELDS, *records.CONSUMER_FIELDS,
+                                    *transfers.ENTRY_FIELDS)]
+    for key in (*keys, *monthtext.TOP_KEYS[:5], "name", "hours", monthtext.csv_head(records.HOUR_FIELDS),
+                *forms.COLUMNS):
         check(f"`{key}`" in readme, f"tools/README.md names {key}")
     usage = run(ROOT / "settle", "--help").stdout.decode()
-    for option in ("--table", "--csv", "--json", "--explain", "--result", "--force", "--strict", "--version"):
+    for option in ("--table", "--csv", "--json", "--explain", "--transfers", "--sheet", "--result", "--force",
+                   "--strict", "--version"):
         check(option in usage and f"`{option}" in readme, f"{option} stands in tools/README.md and ./settle --help")
     check("docs/RULES.md" in readme and "docs/RULES.md" in usage, "the rules' document is named")
     check(max(map(len, readme.split("\n"))) <= 118, "tools/README.md is wrapped")
     readme = (EXAMPLES / "README.md").read_text()
-    for path in EXAMPLES.glob("*.sheet"):
+    for path in (*EXAMPLES.glob("*.sheet"), *EXAMPLES.glob("*.list")):
         check(f"`{path.stem}`" in readme, f"examples/README.md names {path.stem}")
 
 
@@ -106,7 +133,8 @@ def test_made_again():
             (Path(folder) / name).symlink_to(ROOT / name)
         copy = Path(folder) / "examples"
         copy.mkdir()
-        for path in [EXAMPLES / "make", *EXAMPLES.glob("*.toml")]:
+        lists = [path.with_suffix(".csv") for path in EXAMPLES.glob("*.list")]
+        for path in [EXAMPLES / "make", *EXAMPLES.glob("*.toml"), *lists]:
             shutil.copy(path, copy)
         done = run(copy / "make")
         made = {path.name: content for path, content in files_in(copy).items()}

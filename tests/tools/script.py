@@ -5,14 +5,14 @@ import subprocess
 import time
 from hashlib import sha256
 
-from checks import EXAMPLES, PROGRAM, ROOT, check, files_in, run, sheet, words_of
+from checks import EXAMPLES, PROGRAM, ROOT, TRANSFER_PROGRAM, check, files_in, report, run, sheet, words_of
 from texts import GOOD, changed
 
 TOOLS_USED = ("sh", "dirname", "readlink", "find", "cat", "mkdir", "mv", "rm", "cp", "mktemp", "chmod", "awk", "sleep",
-              "sort", "xargs", "sha256sum", "cut", "git", "python3", "env")
+              "sort", "xargs", "sha256sum", "cut", "git", "python3", "env", "wc")
 STAND_IN = """\
 #!/bin/sh
-# rt in the tests: eats its standard input, counts its checks, and puts the program into place.
+# rt in the tests: eats its standard input, counts its checks, and puts the program of a crate into place.
 case $1 in version) cat "$0.version"; exit 0 ;; esac
 cat >/dev/null
 echo "$*" >>"$0.log"
@@ -21,15 +21,22 @@ echo "rt: laws proved (unchanged since it was last proved)"
 echo "a line of the prover"
 echo "rt: rules proved (3 s)"
 [ ! -f "$0.fails" ] || { echo "rt: FAILED: rules"; exit 1; }
-echo "rt: settle proved (4 s)"
+echo "rt: $2 proved (4 s)"
 echo "rt: ok, 3 crates proved"
 mkdir -p target/bin target/stamp
-[ -f target/stamp/settle ] || cp "$0.program" target/bin/settle
-echo stamp >target/stamp/settle
+[ -f "target/stamp/$2" ] || cp "$0.$2" "target/bin/$2"
+echo stamp >"target/stamp/$2"
 """
-CRATES = "# NAME: crates\nrules:\nlaws: rules  # and more\nother: rules\nsettle: rules laws io libc\n"
+CRATES = """\
+# NAME: crates
+rules:
+laws: rules  # and more
+other: rules
+settle: rules laws io libc
+transfer_sheet: rules laws other io libc
+"""
 EXAM = (EXAMPLES / "exam-126.sheet").read_bytes()
-LISTINGS = {path.stem: path.read_bytes() for path in EXAMPLES.glob("*.listing")}
+LISTINGS = {path.stem: path.with_suffix(".listing").read_bytes() for path in EXAMPLES.glob("*.sheet")}
 
 
 class House:
@@ -44,7 +51,8 @@ class House:
         (self.bin / "rt").write_text(STAND_IN)
         (self.bin / "rt").chmod(0o755)
         self.beside_rt("version").write_text("kit 1\n")
-        shutil.copy(PROGRAM, self.beside_rt("program"))
+        for program in (PROGRAM, TRANSFER_PROGRAM):
+            shutil.copy(program, self.beside_rt(program.name))
         self.source = self.root / "crates" / "rules" / "src"
         self.source.mkdir(parents=True)
         (self.source / "lib.rt").write_text("one")
@@ -57,10 +65,10 @@ class House:
     def beside_rt(self, name):
         return self.bin / f"rt.{name}"
 
-    def checks(self):
-        """How often the program was checked by rt."""
+    def checks(self, program="settle"):
+        """How often a program was checked by rt."""
         log = self.beside_rt("log")
-        return log.read_text().count("check settle\n") if log.is_file() else 0
+        return log.read_text().count(f"check {program}\n") if log.is_file() else 0
 
     def settle(self, *words, folder=None, **more):
         """./settle in its own folder, or from another one."""
@@ -89,20 +97,21 @@ class House:
 def test_building(folder):
     """When the program is proved and built, and when it is not."""
     house = House(folder)
-    house.fails("no rt", "settle: the program is to be proved and built first, and rt", commands=house.bin_without_rt)
+    house.fails("no rt", "settle: the program settle is to be proved and built first, and rt",
+                commands=house.bin_without_rt)
     house.fails("no such sheet", "settle: cannot read none.sheet\n", ["none.sheet"])
     check(house.checks() == 0, "settle: nothing is built for a sheet that cannot be read")
     house.beside_rt("fails").write_text("")
-    house.fails("rt fails", "rt: FAILED: rules\nsettle: the program is not proved, so nothing is settled")
+    house.fails("rt fails", "rt: FAILED: rules\nsettle: the program settle is not proved, so nothing is settled")
     house.beside_rt("fails").unlink()
 
-    said = house.settles("the first use builds, and rt does not eat the sheet", 1, b"which takes about two minutes\n"
+    said = house.settles("the first use builds, and rt does not eat the sheet", 1, b"which takes some minutes\n"
                          b"rt: rules proved (3 s), 2 of 3\nrt: settle proved (4 s), 3 of 3\nrt: ok, 3 crates proved\n")
     check(b"prover" not in said and b"unchanged" not in said, "settle: only rt's lines are passed on", said.decode())
     house.settles("the second use does not build", 0)
     house.settles("a dash", 0, words=["-"])
     (house.source / "lib.rt").write_text("changed")
-    house.settles("a changed source", 1, b"settle: rt looks whether the program is up to date\n")
+    house.settles("a changed source", 1, b"settle: rt looks whether the program settle is up to date\n")
     house.settles("after that", 0)
     (house.source / "more.rt").write_text("put in place with an old time")
     os.utime(house.source / "more.rt", (1, 1))
@@ -114,7 +123,8 @@ def test_building(folder):
     house.beside_rt("version").write_text("kit 2\n")
     house.settles("another version of rt", 1, b"up to date")
     (house.root / "target" / "bin" / "settle").unlink()
-    house.settles("a program that is gone", 1, b"two minutes")
+    house.settles("a program that is gone", 1, b"some minutes")
+    check(house.checks("transfer_sheet") == 0, "settle: without a list, only settle is built")
     house.settles("at the end", 0)
     done = run(house.root / "settle", stdin=EXAM, path=house.bin_without_rt)
     check(done.stdout == LISTINGS["exam-126"] and not done.stderr, "settle: an up-to-date program needs no rt",
@@ -129,8 +139,8 @@ def test_copied(folder):
     shutil.copytree(house.root, copy, symlinks=True)
     for words in ([], ["--table"]):
         done = run(copy / "settle", *words, EXAMPLES / "exam-126.sheet", path=house.bin_without_rt)
-        said = (b"settle: rt, the Rattle toolchain, is not on the PATH, so nobody looked whether the program is "
-                b"current; the one there settles\n")
+        said = (b"settle: rt, the Rattle toolchain, is not on the PATH, so nobody looked whether the program settle "
+                b"is current; the one there is used\n")
         check(done.returncode == 0 and done.stderr == said and b"124.0" in done.stdout, "settle: a copied tree",
               words_of(done))
     check(house.checks() == 1, "settle: a copied tree is not built")
@@ -155,7 +165,7 @@ def test_at_once(folder):
                                  stdout=subprocess.PIPE, stderr=subprocess.PIPE) for _ in range(2)]
         for each in runs:
             out, err = each.communicate(timeout=30)
-            known = (b"rt: ", b"settle: the program is proved and built", b"settle: another run proves the program")
+            known = (b"rt: ", b"settle: the program settle is proved", b"settle: another run proves a program")
             quiet = all(line.startswith(known) for line in err.splitlines())
             check(each.returncode == 0 and out == LISTINGS["exam-126"] and quiet, "settle: two first runs at once",
                   err.decode())
@@ -167,14 +177,15 @@ def test_at_once(folder):
 def test_output(folder):
     """What cannot be written is told, with status 2; a pipe that nobody reads any more needs no words."""
     house = House(folder)
-    house.settle(stdin=EXAM)
+    house.settle("--transfers", "examples/transfers.list", "examples/month.sheet")
     env = dict(os.environ, PATH=f"{house.bin}:/usr/bin:/bin")
 
     def shell(line):
         return subprocess.run(["bash", "-c", line], cwd=house.root, env=env, capture_output=True, timeout=60)
     for words in ("examples/small.sheet", "examples/small.sheet examples/refused-9.sheet", "- <examples/small.sheet",
                   "examples/small.toml", "--table examples/small.sheet", "--csv examples/small.toml",
-                  "--json examples/small.toml", "--help", "--version"):
+                  "--json examples/small.toml", "--transfers examples/transfers.list examples/month.sheet",
+                  "--transfers examples/refused-15.csv examples/month.sheet", "--help", "--version"):
         for place in (">/dev/full", ">&-"):
             done = shell(f"./settle {words} {place}")
             said = done.stderr.decode()
@@ -231,7 +242,8 @@ def test_months(folder):
           "settle --explain: a text", words_of(done))
     for words, said in ((["--table", "--csv"], "--table and --csv are two forms"), (["--result"], "--result wants"),
                         (["--result", "-"], "--result wants"), (["--result="], "--result wants"),
-                        (["--force"], "--force goes with --result"), (["--tables"], "there is no option --tables"),
+                        (["--force"], "--force goes with --result or --sheet"),
+                        (["--tables"], "there is no option --tables"),
                         (["--result", "r", "a", "b"], "--result takes the result of one month"),
                         (["none.toml"], "cannot read none.toml")):
         house.fails(f"wrong use: {' '.join(words)}", said, words)
@@ -240,6 +252,146 @@ def test_months(folder):
     check(done.stdout.decode() == small, "settle: a sheet needs no Python", words_of(done))
     for words in (["examples/small.toml"], ["--json", "examples/small.sheet"], ["--explain", "examples/small.sheet"]):
         house.fails(f"no Python: {words[0]}", "need python3, which is not on the PATH", words)
+
+
+def test_transfers_built(folder):
+    """With a list both programs are proved and built, each when it has to be."""
+    house = House(folder)
+    words = ["--transfers", "examples/transfers.list", "examples/month.sheet"]
+
+    def built(name, settle, transfer_sheet, said):
+        before = house.checks(), house.checks("transfer_sheet")
+        done = house.settle(*words)
+        check(done.stdout == LISTINGS["month-transferred"] and done.stderr.decode() == said,
+              f"settle --transfers: {name}", words_of(done))
+        found = house.checks() - before[0], house.checks("transfer_sheet") - before[1]
+        check(found == (settle, transfer_sheet), f"settle --transfers: {name}: checks by rt", str(found))
+    house.fails("no rt", "settle: the program settle is to be proved", words, commands=house.bin_without_rt)
+    house.settle(stdin=EXAM)
+    house.fails("no rt", "the program transfer_sheet is to be proved", words, commands=house.bin_without_rt)
+    house.beside_rt("fails").write_text("")
+    house.fails("rt fails", "the program transfer_sheet is not proved, so nothing is settled; 'rt check "
+                "transfer_sheet' says why\n", words)
+    house.beside_rt("fails").unlink()
+    lines = "rt: rules proved (3 s), 2 of {0}\nrt: {1} proved (4 s), 3 of {0}\nrt: ok, 3 crates proved\n"
+    built("the first use", 0, 1, "settle: the program transfer_sheet is proved and built first, which takes some "
+          "minutes\n" + lines.format(4, "transfer_sheet"))
+    built("the second use", 0, 0, "")
+    (house.source / "lib.rt").write_text("changed")
+    built("a changed source", 1, 1, "".join(
+        f"settle: rt looks whether the program {name} is up to date\n" + lines.format(count, name)
+        for name, count in (("settle", 3), ("transfer_sheet", 4))))
+    (house.root / "target/bin/transfer_sheet").unlink()
+    built("a program that is gone", 0, 1, "settle: the program transfer_sheet is proved and built first, which takes "
+          "some minutes\n" + lines.format(4, "transfer_sheet"))
+    left = sorted(path.name for path in (house.root / "target").iterdir() if path.is_file())
+    check([name for name in left if "lock" not in name] == ["settle.checked", "transfer_sheet.checked"],
+          "settle --transfers: what is left", str(left))
+    copy = folder / "a copy"
+    shutil.copytree(house.root, copy, symlinks=True)
+    done = run(copy / "settle", *words, path=house.bin_without_rt, folder=house.root)
+    check(done.stdout == LISTINGS["month-transferred"] and done.stderr.decode() == "".join(
+        f"settle: rt, the Rattle toolchain, is not on the PATH, so nobody looked whether the program {name} is "
+        "current; the one there is used\n" for name in ("settle", "transfer_sheet")), "settle --transfers: a copied tree",
+        words_of(done))
+    bad = folder / "bad.csv"
+    bad.write_text("day,giver,taker,amount\n1,0,1,1.05\n")
+    (house.source / "lib.rt").write_text("changed again")
+    house.fails("a bad list is told before a program is built", 'bad.csv, line 2: amount: "1.05" has more than one '
+                "decimal", ["--transfers", bad, EXAMPLES / "month.sheet"])
+
+
+def test_transfers(folder):
+    """Lists on the command line: names, several, pipes, refusals, forms, what needs Python, wrong use."""
+    house, elsewhere = House(folder), folder / "else where"
+    elsewhere.mkdir()
+    house.settle("--transfers", "examples/transfers.list", "examples/month.sheet")
+    for suffix in ("list", "csv", "CSV"):
+        (elsewhere / f"-a list.{suffix}").write_bytes((EXAMPLES / f"transfers.{suffix.lower()}").read_bytes())
+    month, wanted = EXAMPLES / "month.sheet", LISTINGS["month-transferred"]
+    for words in (["--transfers", "-a list.list", month], ["--transfers=-a list.list", month],
+                  [month, "--transfers", "-a list.csv"], ["--transfers=-a list.CSV", "--", month],
+                  ["--transfers", "-a list.list", "-"], ["--transfers", "-a list.csv"],
+                  ["--transfers", EXAMPLES / "transfers.list", EXAMPLES / "month.toml"]):
+        done = house.settle(*words, folder=elsewhere, stdin=month.read_bytes())
+        check(done.returncode == 0 and done.stdout == wanted and not done.stderr, f"settle {words}", words_of(done))
+    done = house.settle("--transfers", "/dev/stdin", month, stdin=(EXAMPLES / "transfers.list").read_bytes())
+    check(done.stdout == wanted and not done.stderr, "settle --transfers: a list from a pipe", words_of(done))
+    twice = report("--transfers", EXAMPLES / "transfers.list", "--transfers", EXAMPLES / "transfers.csv", month).stdout
+    for lists in (("transfers.list", "transfers.list"), ("transfers.csv", "transfers.list")):
+        words = [word for name in lists for word in ("--transfers", name)]
+        done = house.settle(*words, "month.sheet", folder=EXAMPLES)
+        check(done.stdout == twice and twice not in (wanted, LISTINGS["month"]), f"settle {words}", words_of(done))
+    for name in ("refused-13", "refused-14", "refused-15"):
+        listing = (EXAMPLES / f"{name}.listing").read_bytes()
+        for words, status in (([], 0), (["--strict"], 1), (["--transfers", f"examples/{name}.csv"], 0)):
+            done = house.settle(*words, "--transfers", f"examples/{name}.list", month)
+            check((done.returncode, done.stdout) == (status, listing) and not done.stderr, f"settle {words} {name}",
+                  words_of(done))
+    for suffix, where in (("list", "byte 21"), ("csv", "line 4")):
+        done = house.settle("--explain", "--transfers", f"refused-13.{suffix}", "month.sheet", folder=EXAMPLES)
+        line = f"month.sheet: refused-13.{suffix}, {where}: entry 2, taker, 32 (the sheet has consumers 0 to 31)"
+        check(done.stdout == b"N13\n" and done.stderr.decode().splitlines()[1] == line,
+              f"settle --explain --transfers: {suffix}", words_of(done))
+    done = house.settle("--sheet", "-new", "--result=new.bin", "--transfers", "examples/transfers.list", month)
+    check(done.stdout == wanted and (house.root / "-new").read_bytes() == (EXAMPLES / "month-transferred.sheet")
+          .read_bytes() and (house.root / "new.bin").is_file(), "settle --sheet --result", words_of(done))
+    room = folder / "room"
+    room.mkdir()
+    for suffix in ("list", "csv"):
+        words = ["./settle", "--transfers", f"examples/transfers.{suffix}", "-"]
+        done = run("env", f"TMPDIR={room}", *words, folder=house.root, path=house.bin, stdin=month.read_bytes())
+        check(done.stdout == wanted and not list(room.iterdir()), f"settle {words}: nothing is left", words_of(done))
+    words = ["./settle", "--transfers", "examples/transfers.list", month]
+    done = run("env", "TMPDIR=/none", *words, folder=house.root, path=house.bin)
+    check(done.returncode == 2 and done.stderr.endswith(b"settle: cannot make a temporary folder\n"),
+          "settle --transfers: no room", words_of(done))
+    done = house.settle("--table", "--transfers", "examples/transfers.csv", "examples/month.toml")
+    check(done.stdout.startswith(b"examples/month.toml: December 2021, after examples/transfers.csv\n"),
+          "settle --table --transfers", words_of(done))
+    for name, listing in LISTINGS.items():
+        if name.startswith("refused-"):
+            done = house.settle("--transfers", "examples/refused-15.list", f"examples/{name}.sheet")
+            check(done.stdout == listing and not done.stderr, f"settle --transfers: {name}", words_of(done))
+    check_wrong_lists(house, month)
+
+
+def check_wrong_lists(house, month):
+    """Wrong use of --transfers and --sheet; a list's bytes need no Python."""
+    packed = EXAMPLES / "transfers.list"
+    (house.root / "long.list").write_bytes(bytes(65_537))
+    (house.root / "longest.list").write_bytes(bytes(65_536))
+    done = house.settle("--transfers", "longest.list", month)
+    check(done.stdout == b"N13\n", "settle --transfers: 65536 bytes are handed over", words_of(done))
+    for words, said in (
+        (["--transfers"], "--transfers wants the name of a file"), (["--transfers="], "--transfers wants the name"),
+        (["--transfers", "-", month], "--transfers wants the name of a file"),
+        (["--sheet"], "--sheet wants the name of a file"), (["--sheet", "-"], "--sheet wants the name of a file"),
+        (["--sheet", "new", month], "--sheet goes with --transfers"),
+        (["--sheet", "-new", "--transfers", packed, month], "-new: exists; --force writes over it"),
+        (["--transfers", packed, month, month], "--transfers goes with one month"),
+        (["--transfers", "none.list", month], "cannot read none.list"), (["--transfers", "/", month], "cannot read /"),
+        (["--transfers", "long.list", month], "long.list: has 65537 bytes, and the program takes at most 65536"),
+        (["--csv", "--transfers", "long.list", month], "long.list: has 65537 bytes, and the program takes at most"),
+    ):
+        done = house.settle(*words)
+        check(done.returncode == 2 and not done.stdout and done.stderr.decode().startswith(f"settle: {said}"),
+              f"wrong use: {words}", words_of(done))
+    (house.bin / "python3").unlink()
+    done = house.settle("--strict", "--transfers", packed, "--transfers", packed, month)
+    check(done.returncode == 0 and done.stdout and not done.stderr, "settle --transfers: no Python", words_of(done))
+    for words in (["--transfers", EXAMPLES / "transfers.csv"], ["--sheet", "x", "--transfers", packed],
+                  ["--explain", "--transfers", packed]):
+        house.fails(f"no Python: {words[0]}", "need python3, which is not on the PATH", [*words, month])
+    for said in ("", "N", "N1345", "\\0", "x" * 54_633, "x" * 54_635):
+        (house.root / "target/bin/transfer_sheet").write_text(f"#!/bin/sh\ncat >/dev/null\nprintf '{said}'\n")
+        done = house.settle("--transfers", packed, month)
+        check(done.returncode == 2 and not done.stdout and b"what it wrote is neither a sheet nor a refusal"
+              in done.stderr, f"settle --transfers: a program that writes {said[:5]}", words_of(done))
+    (house.root / "target/bin/transfer_sheet").write_text("#!/bin/sh\nexit 1\n")
+    done = house.settle("--transfers", packed, month)
+    check(done.returncode == 2 and b"settle: the program failed on " in done.stderr, "settle --transfers: a failure",
+          words_of(done))
 
 
 def test_version(folder):

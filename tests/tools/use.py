@@ -59,8 +59,9 @@ def test_files(folder):
 
 def test_wrong_use(folder):
     for line in ("", "settle", "pack month.toml", "pack month.toml new more", "pack --forced month.toml new",
-                 "pack - new", "unpack", "unpack in.sheet -", "unpack in.sheet --force", "show", "show a b", "explain",
-                 "explain a b", "result", "result a.bin --sheet", "result a.bin b.bin", "check", "check a b", "new",
+                 "pack - new", "unpack", "unpack in.sheet -", "unpack in.sheet --force", "show", "show a b",
+                 "show --transfers - a", "explain", "explain a b", "explain --transfers a", "result",
+                 "result a.bin --sheet", "result a.bin b.bin", "check", "check a b", "check a --transfers", "new",
                  "new 2021", "new 2021-12 - x", "new 2021-12 --rows", "new 2021-12 --rows -1", "new 1-1 --rows 1.0"):
         turned_down(f"wrong use: {line}", folder, line.split(), "usage: tools/sheet", status=2)
 

@@ -70,6 +70,20 @@ def test_result_without_room(folder):
     without_room("--result on a full disk, a new file", report, 1_000, folder, status=2)
 
 
+def test_sheet_without_room(folder):
+    """--sheet and --result are written both or neither."""
+    (folder / "old.bin").write_bytes(b"the result of last month")
+    (folder / "program").write_text(f"#!/bin/sh\ncat >/dev/null\nexec cat '{EXAMPLES}/month-transferred.sheet'\n")
+    (folder / "program").chmod(0o755)
+    report = [REPORT, "--program", PROGRAM, "--transfer-program", folder / "program", "--result", "old.bin", "--force",
+              "--sheet", "new.sheet", "--transfers", EXAMPLES / "transfers.list", EXAMPLES / "month.sheet"]
+    without_room("--sheet on a full disk", report, 20_000, folder, status=2)
+    without_room("--sheet and --result on a full disk", report, 1_000, folder, status=2)
+    done = run_with_room(report, 60_000, folder)
+    check(done.returncode == 0 and (folder / "new.sheet").stat().st_size == len(SHEET_BYTES)
+          and (folder / "old.bin").stat().st_size == 1333, "--sheet, with room", words_of(done))
+
+
 def test_last_step(folder):
     """If one of several files cannot be put into its place, those that were are taken back."""
     place, names = files.NewFile.place, ["a", "b", "c"]

@@ -1,0 +1,255 @@
+"""A list of transfers of contract volume between consumers: its bytes, its text, why it is refused, what it changes.
+
+Layout and numbers are those of request 1 of document 02. Amounts are in tenths of a megawatt. An aid for people: lists
+are applied by the proved program, and its answer holds.
+"""
+from collections import Counter
+from typing import NamedTuple
+
+from files import Trouble, name_of, read_bytes
+from inputs import MOST_READ
+from monthtext import csv_figures, csv_lines, csv_text
+from names import NO_NAMES
+from printing import table_lines
+from records import CAPACITY, PLAIN, TOP_CAPACITY, Entry, Field, Sheet, packing
+from refusals import HANDED_OVER, LAST_FILING_DAY, Refusal, all_refusals, field_places, places_known, turn
+
+TEXT_ENDING, BYTES_ENDING = ".csv", ".list"
+VERSION = 1
+LAST_DAY = 31     # that a month can have
+
+FRONT_FIELDS = (
+    Field("length", "length", 4, PLAIN),
+    Field("version", "version", 1, PLAIN),
+)
+ENTRY_FIELDS = (
+    Field("day", "day filed", 1, PLAIN),
+    Field("giver", "giver", 1, PLAIN),
+    Field("taker", "taker", 1, PLAIN),
+    Field("amount", "amount", 4, CAPACITY),
+)
+FRONT_PACKING, ENTRY_PACKING = packing(FRONT_FIELDS), packing(ENTRY_FIELDS)
+FRONT, ENTRY = FRONT_PACKING.size, ENTRY_PACKING.size
+ENTRY_PLACES = field_places(ENTRY_FIELDS)
+ENTRY_HEADS = ("entry", "day filed", "giver", "taker", "amount")
+VOLUME_HEADS = ("consumer", "before", "given", "taken", "after")
+
+
+class Transfer(NamedTuple):
+    """An entry of a list."""
+    day: int       # of filing, in the month before
+    giver: int     # consumers from 0
+    taker: int
+    amount: int
+
+
+class GivenList(NamedTuple):
+    """A list as it is given to a command: its bytes, or a text, which is packed."""
+    name: str
+    content: bytes
+    is_text: bool
+
+    def refusal(self, entry, number, key, words):
+        """A field of an entry that breaks a rule; in a text the entry has a line, in bytes the field has a place."""
+        place, field = ENTRY_PLACES[key]
+        place += FRONT + ENTRY * entry
+        figure = int.from_bytes(self.content[place:place + field.width], "big")
+        source = f"{self.name}, line {entry + 2}: " if self.is_text else f"{self.name}, byte {place}: "
+        return Refusal(number, place, entry=Entry(place, "entry", entry, None, field, figure), allowed=words,
+                       source=source)
+
+
+# ------------------------------------------------------------------ bytes and text
+
+
+def is_list_text(path):
+    """Lists and their texts are known by the ends of their names, as months' texts are."""
+    return str(path).lower().endswith(TEXT_ENDING)
+
+
+def is_list(path):
+    return is_list_text(path) or str(path).lower().endswith(BYTES_ENDING)
+
+
+def list_bytes(transfers):
+    body = b"".join(ENTRY_PACKING.pack(*transfer) for transfer in transfers)
+    return FRONT_PACKING.pack(FRONT + len(body), VERSION) + body
+
+
+def transfers_of(content):
+    """The whole entries that the bytes of a list hold."""
+    count = max(len(content) - FRONT, 0) // ENTRY
+    return [Transfer(*figures) for figures in ENTRY_PACKING.iter_unpack(content[FRONT:FRONT + ENTRY * count])]
+
+
+def read_text(path):
+    """The bytes of a list that is kept as text."""
+    return list_bytes(csv_figures(path, csv_lines(path, ENTRY_FIELDS), ENTRY_FIELDS))
+
+
+def text_files(name, content, path):
+    """The file of a list's text, name and bytes."""
+    if not is_list_text(path):
+        raise Trouble(f"{path}: is to be the text of a list, whose name ends in {TEXT_ENDING}")
+    for place, words in front_faults(content):
+        raise Trouble(f"{name}: cannot be written as text: byte {place}: {words}")
+    return {path: csv_text(transfers_of(content), ENTRY_FIELDS).encode()}
+
+
+def read_list(path):
+    if is_list_text(path):
+        return GivenList(str(path), read_text(path), True)
+    return GivenList(name_of(path), read_bytes(path, MOST_READ), False)
+
+
+def read_lists(paths):
+    """Lists that are to be applied. The program would take a longer one for its first bytes, so it is not given any."""
+    lists = [read_list(path) for path in paths or ()]
+    for each in lists:
+        if len(each.content) > HANDED_OVER:
+            raise Trouble(f"{each.name}: has {len(each.content)} bytes, and the program takes at most {HANDED_OVER}")
+    return lists
+
+
+# ------------------------------------------------------------------ refusals
+
+
+def front_faults(content):
+    """What number 13 finds before the entries: the place of the field, and what is wrong."""
+    if len(content) < FRONT:
+        yield 0, f"the list ends after {len(content)} bytes; its length and version take {FRONT}"
+        return
+    length, version = FRONT_PACKING.unpack_from(content)
+    if length != len(content):
+        yield 0, f"length, {length}, but there are {len(content)} bytes"
+    elif (length - FRONT) % ENTRY:
+        yield 0, f"length, {length}: bytes after the last whole entry: {(length - FRONT) % ENTRY}"
+    if version != VERSION:
+        yield FRONT - 1, f"version, {version} (not {VERSION})"
+
+
+def entries_known(content):
+    """Whether the bytes can be told apart into entries."""
+    return all(place > 0 for place, _ in front_faults(content))
+
+
+def known_transfers(content):
+    return transfers_of(content) if entries_known(content) else []
+
+
+def day_faults(day):
+    """What 13 and 14 find in an entry's day: the number, the field's key, and what is wrong or allowed there."""
+    if not 1 <= day <= LAST_DAY:
+        yield 13, "day", f"from 1 to {LAST_DAY}"
+    elif day > LAST_FILING_DAY:
+        yield 14, "day", f"at most {LAST_FILING_DAY}"
+
+
+def name_faults(transfer, consumers):
+    """What 13 finds in an entry's names."""
+    there = f"consumers 0 to {consumers - 1}" if consumers else "no consumer"
+    for key in ("giver", "taker"):
+        if getattr(transfer, key) >= consumers:
+            yield 13, key, f"the sheet has {there}"
+    if transfer.giver == transfer.taker:
+        yield 13, "taker", "the giver of this entry"
+
+
+def turn_faults(transfer, volumes, names):
+    """What 15 finds in an entry when the contract volumes are these."""
+    has, comes_to = volumes[transfer.giver], volumes[transfer.taker] + transfer.amount
+    giver, taker = names.label("consumer", transfer.giver), names.label("consumer", transfer.taker)
+    if transfer.amount > has:
+        yield 15, "amount", f"at its turn the giver, {giver}, has {CAPACITY.text(has)}"
+    if comes_to > TOP_CAPACITY:
+        yield 15, "amount", (f"at its turn the taker, {taker}, would come to {CAPACITY.text(comes_to)}; at most "
+                             f"{CAPACITY.text(TOP_CAPACITY)}")
+
+
+def apply(transfer, volumes):
+    volumes[transfer.giver] -= transfer.amount
+    volumes[transfer.taker] += transfer.amount
+
+
+def list_refusals(given, volumes, names=NO_NAMES):
+    """Every field of a list that breaks a rule, by the turn of its number and then by its place. The contract volumes
+    become those after the list; an entry that cannot be applied is left out, and the next ones are tried without it."""
+    found = [Refusal(13, place, words, source=f"{given.name}, byte {place}: ")
+             for place, words in front_faults(given.content)]
+    for number, transfer in enumerate(known_transfers(given.content)):
+        wrong = list(name_faults(transfer, len(volumes))) or list(turn_faults(transfer, volumes, names))
+        if not wrong:
+            apply(transfer, volumes)
+        found.extend(given.refusal(number, *fault) for fault in (*day_faults(transfer.day), *wrong))
+    return sorted(found, key=lambda refusal: (turn(refusal.number), refusal.place))
+
+
+def contract_volumes(given):
+    """Those of a month whose records can be told apart."""
+    return [consumer.contract for consumer in Sheet.from_bytes(given.content[:HANDED_OVER]).consumers]
+
+
+def judged(given, lists):
+    """Every field that breaks a rule, of the sheet and then of each list, applied in order; and the contract volumes
+    after the lists. Where the places of the sheet's records cannot be told, the lists are left out."""
+    found, volumes = all_refusals(given.content), []
+    if places_known(found):
+        volumes = contract_volumes(given)
+        for each in lists:
+            found += list_refusals(each, volumes, given.names)
+    return found, volumes
+
+
+def first_refusal(given, lists):
+    """The first number that applies, save 7, at the first field that breaks it; none if the lists can be applied."""
+    return next(iter(judged(given, lists)[0]), None)
+
+
+def unlikely_entries(given):
+    """What a list may have, but hardly ever has."""
+    for number, transfer in enumerate(known_transfers(given.content)):
+        if transfer.amount == 0:
+            yield f"{given.name}: entry {number}: amount is 0"
+
+
+# ------------------------------------------------------------------ tables
+
+
+def list_lines(content, names=NO_NAMES):
+    """A list as far as it can be read, whether it would be refused or not."""
+    if len(content) < FRONT:
+        return [f"The list ends after {len(content)} bytes, before its first entry."]
+    lines = [f"{field.words:20}{figure}" for field, figure in zip(FRONT_FIELDS, FRONT_PACKING.unpack_from(content))]
+    cells = [entry_cells(number, transfer, names) for number, transfer in enumerate(transfers_of(content))]
+    if cells:
+        left = (2, 3) if names.consumer else ()
+        lines += ["", "Entries, in the order in which they are applied; amounts in MW",
+                  *table_lines(ENTRY_HEADS, cells, left)]
+    rest = (len(content) - FRONT) % ENTRY
+    if rest:
+        lines += ["", f"The list ends after {len(content)} bytes, inside entry {len(cells)}."]
+    return lines
+
+
+def entry_cells(number, transfer, names):
+    parties = [names.cell("consumer", party) for party in (transfer.giver, transfer.taker)]
+    return [str(number), str(transfer.day), *parties, CAPACITY.text(transfer.amount)]
+
+
+def volume_lines(given, lists):
+    """The contract volumes of a month before and after lists that can be applied to it."""
+    gave, took = Counter(), Counter()
+    for transfer in (transfer for each in lists for transfer in transfers_of(each.content)):
+        gave[transfer.giver] += transfer.amount
+        took[transfer.taker] += transfer.amount
+    before = contract_volumes(given)
+    cells = [volume_cells(given.names.cell("consumer", number), volume, gave[number], took[number])
+             for number, volume in enumerate(before)]
+    cells.append(volume_cells("all", sum(before), sum(gave.values()), sum(took.values())))
+    return ["Contract volumes, in MW", *table_lines(VOLUME_HEADS, cells, (0,) if given.names.consumer else ())]
+
+
+def volume_cells(words, volume, gave, took):
+    """What nobody gave or took is left empty, so that what changes is seen."""
+    moved = [CAPACITY.text(figure) if figure else "" for figure in (gave, took)]
+    return [words, CAPACITY.text(volume), *moved, CAPACITY.text(volume - gave + took)]
