@@ -15,7 +15,10 @@ ALIKE = [
       "Refusals.sheetTests, doubled",
       "Refusals.roomTests, doubled",
       "Refusals.figureTests, doubled",
-      "Refusals.tests, doubled"]),
+      "Refusals.tests, doubled",
+      "Transfers.listTests, doubled",
+      "Transfers.turnTests, doubled",
+      "Transfers.transferTests, doubled"]),
     ("a row of the table that stands twice gives what it gives once: the first whose edge p does not pass counts",
      ["Bands.bands, doubled"]),
     ("the table's last row is open above: its edge is never asked",
@@ -49,7 +52,18 @@ ALIKE = [
     ("a number that is at most 0 is 0",
      ["Outcome.outcome: eqb (refusal s room) 0 → leb (refusal s room) 0",
       "Outcome.bufferAfter: eqb (refusal s (length out)) 0 → leb (refusal s (length out)) 0",
-      "Outcome.hoursStretch: eqb (firstOf (formTests s)) 0 → leb (firstOf (formTests s)) 0"]),
+      "Outcome.hoursStretch: eqb (firstOf (formTests s)) 0 → leb (firstOf (formTests s)) 0",
+      "Transfers.badFront: eqb ((listLength l - listFront) % entryWidth) 0 → "
+      "leb ((listLength l - listFront) % entryWidth) 0",
+      "Transfers.transferOutcome: eqb (transferRefusal s l) 0 → leb (transferRefusal s l) 0",
+      "Transfers.transferred: eqb (transferRefusal s l) 0 → leb (transferRefusal s l) 0"]),
+    ("a length of 5 plus a multiple of 7 holds as many sevens as without the 5; of another length 13 asks no entry",
+     ["TransferList.entries: listLength l - listFront → listLength l"]),
+    ("a list of fewer than 5 bytes has no version: it is read as 0, which is not 1",
+     ["Transfers.badFront: ltb (length l) listFront ∷ not (eqb (listLength l) (length l)) ∷ [] → "
+      "not (eqb (listLength l) (length l)) ∷ []"]),
+    ("the entry past the last is read as an amount of 0, from consumer 0 to itself: it can be met",
+     ["Transfers.turnTests: any (overdrawnAt v l) (entries l) → any (overdrawnAt v l) (entries l + 1)"]),
 ]
 
 

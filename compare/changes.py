@@ -6,7 +6,7 @@ from definitions import (Call, Definition, Empty, Field, Function, Let, Name, Nu
 from slips import SLIPS
 
 DEFINITIONS = ("Range", "Units", "Month", "ControlHours", "Bands", "Cut", "Coefficients", "Rows", "Consumers", "Totals",
-               "Fields", "Sheet", "Result", "Refusals", "Outcome")
+               "Fields", "Sheet", "Result", "Refusals", "Outcome", "TransferList", "Transfers")
 
 
 class Mutant(NamedTuple):

@@ -3,10 +3,11 @@
 use Prim.Native.Nat.{ℕ}
 use mathlib.Core.List.{List, [], _∷_, _++_}
 use lib.ListN.{length, replicate}
+use Rattle.rules.specs.Month.{Consumer}
 use Rattle.rules.specs.Sheet.{monthOf}
 use Rattle.rules.specs.Outcome.{refused, written}
-use Rattle.rules.specs.Transfers.{contracts, transferRefusal, transferOutcome, transferred}
-use Rattle.rules.specs.Samples.{Figure, figure, wrong}
+use Rattle.rules.specs.Transfers.{contracts, transferRefusal, transferOutcome, transferred, withVolumes}
+use Rattle.rules.specs.Samples.{consumer, month, Figure, figure, wrong}
 use Rattle.rules.specs.Open.{settlement, layout, transfers}
 use mathlib.Core.Path.{_≡_, refl}
 
@@ -69,10 +70,12 @@ listCases =
     ∷ figure (number (one (filed 21 0 1 0 1))) 14
     ∷ figure (number (one (filed 31 0 1 0 1))) 14
     ∷ figure (number (one (filed 32 0 1 0 1))) 13
-    -- consumers 2 and 3 of three, as giver and as taker; one consumer twice, though nothing moves
+    -- consumers 2, 3 and 255 of three, as giver and as taker; one consumer twice, though nothing moves
     ∷ figure (number (one (filed 1 2 0 0 1))) 0
     ∷ figure (number (one (filed 1 3 0 0 1))) 13
+    ∷ figure (number (one (filed 1 255 0 0 1))) 13
     ∷ figure (number (one (filed 1 0 3 0 1))) 13
+    ∷ figure (number (one (filed 1 0 255 0 1))) 13
     ∷ figure (number (one (filed 1 1 1 0 0))) 13
     -- all that consumer 1 has, 50.0, and 0.1 more
     ∷ figure (number (one (filed 1 1 0 1 244))) 0
@@ -121,6 +124,24 @@ volumeCases =
     ∷ figure (volumeOf (two (filed 1 1 0 0 250) (filed 1 1 0 0 250)) 0) 1500
     ∷ figure (volumeOf (two (filed 1 1 0 0 250) (filed 1 1 0 0 250)) 1) 0
     ∷ []
+
+-- A consumer whose six figures are 1 to 6, with a contract volume of 7: all others stay.
+abbrev restated : Consumer
+restated = withVolumes (month 28 1 0 [] [] (consumer 1 2 3 4 5 6 ∷ [])) (λ c. 7) .consumer 0
+
+unfoldable pub restatedFigures : List Figure
+restatedFigures =
+    figure (restated .contract) 7
+    ∷ figure (restated .peak) 2
+    ∷ figure (restated .supplier) 3
+    ∷ figure (restated .grid) 4
+    ∷ figure (restated .z) 5
+    ∷ figure (restated .price) 6
+    ∷ []
+
+pub restated-figures : wrong restatedFigures ≡ []
+unfolding settlement restatedFigures
+restated-figures = refl
 
 -- By computation: no number and no volume is wrong.
 pub list-cases : wrong listCases ≡ []
