@@ -1,5 +1,5 @@
--- Transfers of contract volume between consumers: a list, applied to the contract volumes in a sheet. [Requests, 1, throughout; a number
--- stands before each of its tests]
+-- Transfers of contract volume between consumers: a list, applied to the contract volumes in a sheet. [Requests, 1, throughout; p. 53; a
+-- number stands before each of its tests]
 use Prim.Native.Nat.{ℕ, zero, suc, _+_, _-_, _%_}
 use mathlib.Core.Bool.{Bool, not, cond}
 use mathlib.Core.List.{List, [], _∷_, _++_}
