@@ -98,34 +98,34 @@ after-more v l i = rw add-one
 abbrev pub AllNamed : ℕ → List ℕ → Type 0
 AllNamed n l = (i : ℕ) → i < entries l → Named n (entry l i)
 
-module _ (l : List ℕ) (n : ℕ) (names : AllNamed n l) where
+module _ (l : List ℕ) (count : ℕ) (names : AllNamed count l) where
   -- Two months with the same contract volumes.
-  module _ (v w : ℕ → ℕ) (same : (c : ℕ) → c < n → v c ≡ w c) where
-    pub after-same : (i : ℕ) (c : ℕ) → c < n → afterEntries v l i c ≡ afterEntries w l i c
+  module _ (v w : ℕ → ℕ) (same : (c : ℕ) → c < count → v c ≡ w c) where
+    pub after-same : (i : ℕ) (c : ℕ) → c < count → afterEntries v l i c ≡ afterEntries w l i c
     unfolding afterEntries
     after-same zero c b = same c b
-    after-same (suc i) c b = moved-same (afterEntries v l i) (afterEntries w l i) n (after-same i) (entry l i) c b
+    after-same (suc i) c b = moved-same (afterEntries v l i) (afterEntries w l i) count (after-same i) (entry l i) c b
 
     pub turns-same : any (overdrawnAt v l) (entries l) ≡ any (overdrawnAt w l) (entries l)
     unfolding overdrawnAt
-    turns-same = any-same _ _ (entries l) (λ i b. overdrawn-same (afterEntries v l i) (afterEntries w l i) n (after-same i) (entry l i) (names i b))
+    turns-same = any-same _ _ (entries l) (λ i b. overdrawn-same (afterEntries v l i) (afterEntries w l i) count (after-same i) (entry l i) (names i b))
 
-  -- Entries that are all met.
-  module _ (v : ℕ → ℕ) (fair : (i : ℕ) → i < entries l → overdrawnAt v l i ≡ false) where
-    turn : (i : ℕ) → i < entries l → overdrawn (afterEntries v l i) (entry l i) ≡ false
+  -- The first n entries can be met.
+  module _ (v : ℕ → ℕ) (n : ℕ) (few : n ≤ entries l) (fair : (i : ℕ) → i < n → overdrawnAt v l i ≡ false) where
+    turn : (i : ℕ) → i < n → overdrawn (afterEntries v l i) (entry l i) ≡ false
     turn i b = unfold overdrawnAt in fair i b
 
-    pub sum-after : (i : ℕ) → i ≤ entries l → sum (afterEntries v l i) n ≡ sum v n
+    pub sum-after : (i : ℕ) → i ≤ n → sum (afterEntries v l i) count ≡ sum v count
     unfolding afterEntries
     sum-after zero b = refl
     sum-after (suc i) b =
-        sum-moved (afterEntries v l i) n (entry l i) (names i (omega arith)) (turn i (omega arith)) ∙ sum-after i (omega arith)
+        sum-moved (afterEntries v l i) count (entry l i) (names i (omega arith)) (turn i (omega arith)) ∙ sum-after i (omega arith)
 
-    pub after-within : ((c : ℕ) → c < n → v c ≤ tenthsCeiling) → (i : ℕ) → i ≤ entries l → (c : ℕ) → c < n → afterEntries v l i c ≤ tenthsCeiling
+    pub after-within : ((c : ℕ) → c < count → v c ≤ tenthsCeiling) → (i : ℕ) → i ≤ n → (c : ℕ) → c < count → afterEntries v l i c ≤ tenthsCeiling
     unfolding afterEntries
     after-within w zero b c q = w c q
     after-within w (suc i) b c q =
-        moved-within (afterEntries v l i) n (entry l i) (names i (omega arith)) (turn i (omega arith)) (after-within w i (omega arith)) c q
+        moved-within (afterEntries v l i) count (entry l i) (names i (omega arith)) (turn i (omega arith)) (after-within w i (omega arith)) c q
 
 -- What a list keeps to that none of 13 to 15 refuses, for a sheet with so many consumers and these contract volumes.
 pub record ListLimits (consumers : ℕ) (v : ℕ → ℕ) (l : List ℕ) : Type 0 where

@@ -240,7 +240,7 @@ module _ (s t : List ℕ) where
     small : (c : ℕ) → c < headerOf s .consumers → volumesAfter (monthOf s) t c ≤ tenthsCeiling
     unfolding volumesAfter
     small c b =
-        after-within t (headerOf s .consumers) names (contracts (monthOf s)) (applied-limits s t none .1 .fair) (λ k q. month-kept .consumer k q .contract) (entries t) (le-refl _) c b
+        after-within t (headerOf s .consumers) names (contracts (monthOf s)) (entries t) (le-refl _) (applied-limits s t none .1 .fair) (λ k q. month-kept .consumer k q .contract) (entries t) (le-refl _) c b
 
     -- Its volumes are read from the sheet, and their sum is what it was.
     pub volumes-read : (c : ℕ) → c < headerOf s .consumers → contracts (monthOf applied-sheet) c ≡ volumesAfter (monthOf s) t c
@@ -249,7 +249,7 @@ module _ (s t : List ℕ) where
     same-sum : contractSum applied-sheet ≡ contractSum s
     same-sum =
         sum-same _ _ (ap (λ (x : Layout). x .header .consumers) (same-layout s form (volumesAfter (monthOf s) t))) volumes-read
-        ∙ (unfold volumesAfter in sum-after t (headerOf s .consumers) names (contracts (monthOf s)) (applied-limits s t none .1 .fair) (entries t) (le-refl _))
+        ∙ (unfold volumesAfter in sum-after t (headerOf s .consumers) names (contracts (monthOf s)) (entries t) (le-refl _) (applied-limits s t none .1 .fair) (entries t) (le-refl _))
 
     pub with-kept : MonthLimits (withVolumes (monthOf s) (volumesAfter (monthOf s) t))
     with-kept = with-limits s form (volumesAfter (monthOf s) t) small month-kept

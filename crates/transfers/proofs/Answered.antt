@@ -1,32 +1,48 @@
 -- Which list of tests the first number comes from, and what is answered and left. Assumes nothing.
-use mathlib.Core.Path.{_≡_, sym, ap, _∙_}
-use mathlib.Core.Bool.{Bool, true, false}
+use mathlib.Core.Path.{_≡_, refl, sym, ap, _∙_}
+use mathlib.Core.Bool.{Bool, true, false, cond}
 use mathlib.Core.List.{List, _++_}
-use Prim.Native.Nat.{ℕ, _≤_, _<_}
+use Prim.Native.Nat.{ℕ, zero-le, _≤_, _<_}
 use native.Mathlib.Nat.{le-of-eq}
 use native.Mathlib.Omega.{arith}
-use borrow.Author.Tests.{eq-eqb, ne-eqb, lt-ltb}
-use lib.ListN.{length, getD}
+use borrow.Author.Tests.{eq-eqb, ne-eqb, ltb-true, lt-ltb}
+use lib.Dec.{ltb}
+use lib.ListN.{length}
 use Rattle.rules.specs.declared.Layout.{Layout}
 use Rattle.rules.specs.Range.{any}
+use Rattle.rules.specs.Units.{tenthsCeiling}
 use Rattle.rules.specs.Sheet.{headerOf, layoutOf, monthOf, monthUnder, sheetLength, withContracts}
 use Rattle.rules.specs.Refusals.{sheetTests, firstOf}
 use Rattle.rules.specs.Outcome.{refused, written}
 use Rattle.rules.specs.TransferList.{entries}
 use Rattle.rules.specs.Transfers.{contracts, listTests, turnTests, transferTests, transferRefusal, transferOutcome, transferred, volumesAfter, afterEntries, overdrawnAt}
-use Rattle.laws.proofs.Arrays.{Agrees, getD-listed, length-listed}
+use Rattle.laws.proofs.Arrays.{Agrees, filled, getD-listed, length-listed}
 use Rattle.laws.proofs.Refusals.{first-stands, first-next}
 use Rattle.laws.proofs.Written.{contracts-same}
 use Rattle.laws.proofs.Transfers.{Named, AllNamed, list-numbered, names-clear, sheet-numbered, sheet-limits, after-same, turns-same}
+use Rattle.units.specs.declared.Tenths.{Tenths}
+use Rattle.units.specs.Sums.{tenths}
 use Rattle.transfers.specs.declared.volumes.Volumes.{Volumes}
-use Rattle.transfers.specs.Held.{held, read}
+use Rattle.transfers.specs.Held.{held, read, Within}
 
--- The volumes of the first n consumers are read where they are held.
-held-wide : (n : ℕ) (v : ℕ → ℕ) {x : Volumes} → x ≡ held n v → length (x .of) ≡ 32
-held-wide n v e = rw e (length-listed _ 32)
+-- The volumes of the first n consumers are read where they are held; with them, none of the 32 is above the ceiling.
+module _ (n : ℕ) (v : ℕ → ℕ) {x : Volumes} (e : x ≡ held n v) where
+  held-at : (c : ℕ) → c < 32 → read x c ≡ cond (ltb c n) (v c) 0
+  held-at c b = rw e (ap (λ (y : Tenths). y .0) (getD-listed (tenths 0) (filled (tenths 0) (λ k. tenths (v k)) n) 32 c b) ∙ go (ltb c n))
+    where
+      go : (q : Bool) → cond q (tenths (v c)) (tenths 0) .0 ≡ cond q (v c) 0
+      go true = refl
+      go false = refl
 
-held-read : (n : ℕ) (v : ℕ → ℕ) {x : Volumes} → x ≡ held n v → n ≤ 32 → (c : ℕ) → c < n → read x c ≡ v c
-held-read n v e few c b = rw e (getD-listed 0 _ 32 c (omega arith) ∙ rw (lt-ltb c n b))
+  held-read : n ≤ 32 → (c : ℕ) → c < n → read x c ≡ v c
+  held-read few c b = held-at c (omega arith) ∙ rw (lt-ltb c n b)
+
+  held-within : ((c : ℕ) → c < n → v c ≤ tenthsCeiling) → Within x
+  held-within small = record { wide = rw e (length-listed _ 32); each = λ c b. rw (held-at c b) (go c (ltb c n) refl) }
+    where
+      go : (c : ℕ) (q : Bool) → ltb c n ≡ q → cond q (v c) 0 ≤ tenthsCeiling
+      go c true q = small c (ltb-true c n q)
+      go c false q = zero-le
 
 module _ (s l : List ℕ) where
   -- A refused list: its number, and the sheet as it was.
@@ -67,11 +83,14 @@ module _ (s l : List ℕ) where
       turn-number : firstOf (turnTests (contracts (monthOf s)) l) ≡ transferRefusal s l
       turn-number = first-next (listTests (layout .header .consumers) l) _ (list-numbered _ l) good ∙ next
 
+      small : (c : ℕ) → c < layout .header .consumers → contracts (monthUnder layout s) c ≤ tenthsCeiling
+      small = rw el (λ c b. sheet-limits s own .1 .consumer c b .contract)
+
       -- The volumes that were read.
       module _ {x : Volumes} (ex : x ≡ held (layout .header .consumers) (contracts (monthUnder layout s))) where
-        pub may-turn : (length (x .of) ≡ 32) × AllNamed 32 l
+        pub may-turn : Within x × AllNamed 32 l
         may-turn = (
-          held-wide (layout .header .consumers) (contracts (monthUnder layout s)) ex,
+          held-within (layout .header .consumers) (contracts (monthUnder layout s)) ex small,
           λ i b. let k = named i b in record { giver = omega (arith, k .giver, whole .1); taker = omega (arith, k .taker, whole .1); apart = k .apart },
         )
 
@@ -93,11 +112,11 @@ module _ (s l : List ℕ) where
           none : transferRefusal s l ≡ 0
           none = sym turn-number ∙ (unfold turnTests firstOf in rw (sym (turns e) ∙ y))
 
-          pub applied : {after : Volumes} {t : List ℕ} → Agrees 32 0 (afterEntries (read x) l (entries l)) (after .of)
+          pub applied : {after : Volumes} {t : List ℕ} → Agrees 32 (tenths 0) (λ c. tenths (afterEntries (read x) l (entries l) c)) (after .of)
               → t ≡ withContracts layout (read after) (layout .header .consumers) s → (written 0 ≡ transferOutcome s l) × (t ≡ transferred s l)
           unfolding transferOutcome transferred volumesAfter
           applied {after} a et =
               let q = eq-eqb (transferRefusal s l) 0 none in
               let each : (c : ℕ) → c < layout .header .consumers → read after c ≡ afterEntries (contracts (monthOf s)) l (entries l) c =
-              λ c k. a .each c (omega (arith, k, whole .1)) ∙ after-same l (layout .header .consumers) named (read x) (contracts (monthOf s)) same (entries l) c k in
+              λ c k. ap (λ (y : Tenths). y .0) (a .each c (omega (arith, k, whole .1))) ∙ after-same l (layout .header .consumers) named (read x) (contracts (monthOf s)) same (entries l) c k in
               (rw q, et ∙ contracts-same layout _ _ s _ each ∙ rw (q, el))

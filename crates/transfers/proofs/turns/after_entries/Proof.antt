@@ -1,25 +1,29 @@
-use mathlib.Core.List.{List}
-use lib.ListN.{getD}
-use Rattle.rules.specs.TransferList.{entries}
-use Rattle.laws.proofs.Transfers.{Named}
-use Rattle.transfers.specs.declared.volumes.Volumes.{Volumes}
-use Rattle.transfers.proofs.Turn.{decided, enough, written}
 use native.Mathlib.Omega.{arith}
 use borrow.Author.Needs.{needs}
-use mathlib.Core.Path.{_≡_, refl, sym, ap, _∙_}
+use mathlib.Core.Path.{_≡_, refl, sym, _∙_}
 use mathlib.Core.Bool.{false, true≢false}
-use Prim.Native.Nat.{ℕ, _+_, _-_, _≤_, _<_, zero-le}
+use mathlib.Core.List.{List}
+use Prim.Native.Nat.{ℕ, _-_, _≤_, _<_, zero-le}
+use native.Mathlib.Nat.{le-refl, le-of-lt}
 use Rattle.rules.specs.Range.{any}
+use Rattle.rules.specs.Units.{tenthsCeiling}
+use Rattle.rules.specs.TransferList.{entries}
 use Rattle.rules.specs.Transfers.{afterEntries, overdrawnAt}
 use Rattle.laws.proofs.Arrays.{Agrees}
-use Rattle.laws.proofs.Range.{any-start, any-more, any-hit}
+use Rattle.laws.proofs.Range.{any-start, any-more, any-hit, any-clear}
+use Rattle.laws.proofs.Transfers.{Named, after-within}
+use Rattle.units.specs.Sums.{tenths}
+use Rattle.transfers.specs.declared.volumes.Volumes.{Volumes}
 use Rattle.transfers.specs.Held.{read}
+use Rattle.transfers.proofs.Turn.{decided, written}
 use Rattle.transfers.proofs.turns.after_entries.Statement.{statement}
 use Rattle.transfers.proofs.turns.after_entries.Tie as tie
 
 abbrev Inv-loop : tie.InvT-loop
 Inv-loop list volumes₀ count i₀ volumes i =
-    Agrees 32 0 (afterEntries (read volumes₀) list i) (volumes .of) × (any (overdrawnAt (read volumes₀) list) i ≡ false) × (i ≤ count)
+    Agrees 32 (tenths 0) (λ c. tenths (afterEntries (read volumes₀) list i c)) (volumes .of)
+    × (any (overdrawnAt (read volumes₀) list) i ≡ false)
+    × (i ≤ count)
 
 abbrev μ-loop : tie.MeasureT-loop
 μ-loop list volumes₀ count i₀ volumes i = count - i
@@ -30,9 +34,9 @@ entry-count-requires c κs = search needs
 loop-holds : tie.Need-loop-holds Inv-loop μ-loop
 loop-holds c =
     let a = c .before .before in
-    (record { wide = a .pre .0; each = λ j b. unfold afterEntries in refl }, any-start _, zero-le)
+    (record { wide = a .pre .0 .wide; each = λ j b. unfold afterEntries in refl }, any-start _, zero-le)
 
--- The entry that was read names two consumers of the 32, and what the array has at its turn.
+-- The entry that was read names two consumers of the 32, and no volume is above the ceiling at its turn.
 abbrev list : tie.After-entry Inv-loop μ-loop → List ℕ
 list c = c .before .before .before .before .before .args .list .now
 
@@ -48,6 +52,11 @@ below c = omega (arith, c .before .before .before .entry-count .ensures)
 named : (c : tie.After-entry Inv-loop μ-loop) → Named 32 (c .entry .result)
 named c = rw (c .entry .ensures) (c .before .before .before .before .before .pre .1 (turn c) (below c))
 
+small : (c : tie.After-entry Inv-loop μ-loop) (k : ℕ) → k < 32 → afterEntries (read (first c)) (list c) (turn c) k ≤ tenthsCeiling
+small c k q =
+    let a = c .before .before .before .before .before in
+    after-within (list c) 32 (a .pre .1) (read (first c)) (turn c) (le-of-lt (below c)) (any-clear _ (turn c) (c .before .before .loop .inv .1)) (a .pre .0 .each) (turn c) (le-refl _) k q
+
 entry-requires : tie.Need-entry-requires Inv-loop μ-loop
 entry-requires c κs = search needs
 
@@ -57,62 +66,53 @@ cast-giver c = search needs
 cast-taker : tie.Need-cast-taker Inv-loop μ-loop
 cast-taker c = search needs
 
+stated-requires : tie.Need-stated-requires Inv-loop μ-loop
+stated-requires c κs = search needs
+
 mul-has : tie.Need-mul-has Inv-loop μ-loop
 mul-has c = search needs
 
 element-copy-out-has : tie.Need-element-copy-out-has Inv-loop μ-loop
-element-copy-out-has c = named (c .before .before) .giver
+element-copy-out-has c = named (c .before .before .before) .giver
 
 mul-had : tie.Need-mul-had Inv-loop μ-loop
 mul-had c = search needs
 
 element-copy-out-had : tie.Need-element-copy-out-had Inv-loop μ-loop
-element-copy-out-had c = named (c .before .before .before) .taker
+element-copy-out-had c = named (c .before .before .before .before) .taker
+
+less-requires : tie.Need-less-requires Inv-loop μ-loop
+less-requires c κs = search needs
+
+plus-requires : tie.Need-plus-requires Inv-loop μ-loop
+plus-requires c κs = search needs
 
 overdrawn-requires : tie.Need-overdrawn-requires Inv-loop μ-loop
 overdrawn-requires c κs = search needs
 
 -- What 15 says of the entry.
-found : (c : tie.After-overdrawn Inv-loop μ-loop)
-    → c .overdrawn .result ≡ overdrawnAt (read (first (c .before .before .before .before .before))) (list (c .before .before .before .before .before)) (turn (c .before .before .before .before .before))
+found : (c : tie.After-overdrawn Inv-loop μ-loop) → c .overdrawn .result ≡ overdrawnAt (read (first (c .before .before .before .before .before .before .before .before))) (list (c .before .before .before .before .before .before .before .before)) (turn (c .before .before .before .before .before .before .before .before))
 found c =
-    let e = c .before .before .before .before .before in
-    decided (read (first e)) (list e) (turn e) (e .before .before .loop .volumes .of) (e .before .before .loop .inv .0) (e .entry .result) (e .entry .ensures) (named e) (c .overdrawn .ensures)
+    let e = c .before .before .before .before .before .before .before .before in
+    decided (read (first e)) (list e) (turn e) (e .before .before .loop .volumes .of) (e .before .before .loop .inv .0) (small e) (e .entry .result) (e .entry .ensures) (named e)
+    (c .before .before .before .before .before .stated .ensures) (c .before .before .less .ensures) (c .before .plus .ensures) (c .overdrawn .ensures)
 
 returns : tie.Need-returns Inv-loop μ-loop
 returns c =
-    let e = c .before .before .before .before .before .before in
+    let e = c .before .before .before .before .before .before .before .before .before in
     (sym (any-hit _ (entries (list e)) (turn e) (below e) (sym (found (c .before)) ∙ c .if1 .taken)), λ q. absurd (true≢false q))
 
--- An entry that can be met.
-fair : (c : tie.Else1 Inv-loop μ-loop)
-    → overdrawnAt (read (first (c .before .before .before .before .before .before))) (list (c .before .before .before .before .before .before)) (turn (c .before .before .before .before .before .before)) ≡ false
-fair c = sym (found (c .before)) ∙ c .if1 .left
+mul-left : tie.Need-mul-left Inv-loop μ-loop
+mul-left c = search needs
 
-fits : (c : tie.Else1 Inv-loop μ-loop)
-    → (c .before .before .before .before .before .before .entry .result .amount ≤ getD (c .before .before .before .before .before .before .before .before .loop .volumes .of) (c .before .before .before .before .before .before .entry .result .giver) 0)
-    × (getD (c .before .before .before .before .before .before .before .before .loop .volumes .of) (c .before .before .before .before .before .before .entry .result .taker) 0 + c .before .before .before .before .before .before .entry .result .amount ≤ 100000)
-fits c =
-    let e = c .before .before .before .before .before .before in
-    enough (read (first e)) (list e) (turn e) (e .before .before .loop .volumes .of) (e .before .before .loop .inv .0) (e .entry .result) (e .entry .ensures) (named e) (fair c)
+element-set-from-left : tie.Need-element-set-from-left Inv-loop μ-loop
+element-set-from-left c = omega (arith, named (c .before .before .before .before .before .before .before .before .before) .giver, named (c .before .before .before .before .before .before .before .before .before) .taker)
 
-sub-volumes : tie.Need-sub-volumes Inv-loop μ-loop
-sub-volumes c = fits (c .before) .0
+mul-raised : tie.Need-mul-raised Inv-loop μ-loop
+mul-raised c = search needs
 
-mul-volumes : tie.Need-mul-volumes Inv-loop μ-loop
-mul-volumes c = search needs
-
-element-write-volumes : tie.Need-element-write-volumes Inv-loop μ-loop
-element-write-volumes c = omega (arith, named (c .before .before .before .before .before .before .before) .giver, named (c .before .before .before .before .before .before .before) .taker)
-
-add-volumes : tie.Need-add-volumes Inv-loop μ-loop
-add-volumes c = omega (arith, fits (c .before .before) .1)
-
-mul-volumes-2 : tie.Need-mul-volumes-2 Inv-loop μ-loop
-mul-volumes-2 c = search needs
-
-element-write-volumes-2 : tie.Need-element-write-volumes-2 Inv-loop μ-loop
-element-write-volumes-2 c = omega (arith, named (c .before .before .before .before .before .before .before .before) .giver, named (c .before .before .before .before .before .before .before .before) .taker)
+element-set-from-raised : tie.Need-element-set-from-raised Inv-loop μ-loop
+element-set-from-raised c = omega (arith, named (c .before .before .before .before .before .before .before .before .before) .giver, named (c .before .before .before .before .before .before .before .before .before) .taker)
 
 add-i : tie.Need-add-i Inv-loop μ-loop
 add-i c = omega arith
@@ -122,10 +122,10 @@ loop-less c = omega arith
 
 loop-again : tie.Need-loop-again Inv-loop μ-loop
 loop-again c =
-    let d = c .before .before in
-    let e = d .before .before .before .before .before .before in (
-      written (read (first e)) (list e) (turn e) (e .before .before .loop .volumes .of) (e .before .before .loop .inv .0) (e .entry .result) (e .entry .ensures) (named e),
-      any-more _ (turn e) (e .before .before .loop .inv .1) (fair d),
+    let e = c .before .before .before .before .before .before .before .before .before in (
+      written (read (first e)) (list e) (turn e) (e .before .before .loop .volumes .of) (e .before .before .loop .inv .0) (small e) (e .entry .result) (e .entry .ensures) (named e)
+          (c .before .before .before .before .before .before .stated .ensures) (c .before .before .before .less .ensures) (c .before .before .plus .ensures),
+      any-more _ (turn e) (e .before .before .loop .inv .1) (sym (found (c .before)) ∙ c .if1 .left),
       omega arith,
     )
 
@@ -146,18 +146,19 @@ after-entries-spec =
     entry-requires
     cast-giver
     cast-taker
+    stated-requires
     mul-has
     element-copy-out-has
     mul-had
     element-copy-out-had
+    less-requires
+    plus-requires
     overdrawn-requires
     returns
-    sub-volumes
-    mul-volumes
-    element-write-volumes
-    add-volumes
-    mul-volumes-2
-    element-write-volumes-2
+    mul-left
+    element-set-from-left
+    mul-raised
+    element-set-from-raised
     add-i
     loop-less
     loop-again

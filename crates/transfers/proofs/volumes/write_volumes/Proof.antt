@@ -54,9 +54,6 @@ part-put-word-start c = omega (arith, inside (c .before .before), c .contract-at
 part-put-word-end : tie.Need-part-put-word-end Inv-loop μ-loop
 part-put-word-end c = search needs
 
-cast-put-word : tie.Need-cast-put-word Inv-loop μ-loop
-cast-put-word c = search needs
-
 put-word-requires : tie.Need-put-word-requires Inv-loop μ-loop
 put-word-requires c κs = search needs
 
@@ -103,7 +100,6 @@ write-volumes-spec =
     sub-put-word
     part-put-word-start
     part-put-word-end
-    cast-put-word
     put-word-requires
     add-c
     loop-less
