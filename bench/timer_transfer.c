@@ -71,8 +71,8 @@ int main(int count, char **words)
     double taken = timed(program, calls, lengths, &answer);
     if (count == 5)
         return 0;
-    if (memcmp(before, sheet, lengths[0]) != 0) {
-        fputs("timer_transfer: the list does not leave the sheet as it was\n", stderr);
+    if (answer != 0 || memcmp(before, sheet, lengths[0]) != 0) {
+        fputs("timer_transfer: the list is not applied, or does not leave the sheet as it was\n", stderr);
         return 1;
     }
     printf("%.3f %lld\n", taken, (long long)answer);
