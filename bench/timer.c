@@ -6,12 +6,12 @@
  * module: the proved archive. c: bench/settle.c. sum: no settlement; the sheet's bytes are added up, eight at a time.
  * none: the loop with the call left out. quiet: nothing is printed, so that instructions can be counted.
  */
-#define _POSIX_C_SOURCE 200809L
+#include "clock.h"
+
 #include <stdint.h>
 #include <stdio.h>
 #include <stdlib.h>
 #include <string.h>
-#include <time.h>
 
 #include "capacity.h"
 #include "settle.h"
@@ -33,14 +33,6 @@ static int64_t sum_of(const uint8_t *bytes, size_t length, uint8_t *out, size_t 
     for (; at < length; at++)
         sum += bytes[at];
     return (int64_t)sum;
-}
-
-/* The processor's time, in nanoseconds: what other programs take in between is left out. */
-static double now(void)
-{
-    struct timespec t;
-    clock_gettime(CLOCK_PROCESS_CPUTIME_ID, &t);
-    return 1e9 * (double)t.tv_sec + (double)t.tv_nsec;
 }
 
 /* The nanoseconds of a call. The settlement is known only when the program runs, so no call is left out or moved. */
