@@ -12,7 +12,7 @@ use Rattle.rules.specs.Range.{sum, any}
 use Rattle.rules.specs.Units.{tenthsCeiling}
 use Rattle.rules.specs.Limits.{FormLimits, MonthLimits}
 use Rattle.rules.specs.Sheet.{headerOf, monthOf}
-use Rattle.rules.specs.Refusals.{oneOf, frontTests, headerTests, formTests, figureTests, sheetTests, firstOf, applies}
+use Rattle.rules.specs.Refusals.{frontTests, headerTests, formTests, figureTests, sheetTests, firstOf, applies}
 use Rattle.rules.specs.TransferList.{entries, entry}
 use Rattle.rules.specs.Transfers.{badEntry, moved, afterEntries, overdrawn, overdrawnAt, contracts, listTests, turnTests, transferTests, transferRefusal}
 use Rattle.laws.proofs.Range.{any-clear, any-same, sum-one}
@@ -24,7 +24,7 @@ pub record Named (consumers : ℕ) (t : Transfer) : Type 0 where
   pub taker : t .taker < consumers
   pub apart : t .giver ≡ t .taker → ⊥
 
-pub entry-named : (consumers : ℕ) (t : Transfer) → badEntry consumers t ≡ false → Named consumers t
+entry-named : (consumers : ℕ) (t : Transfer) → badEntry consumers t ≡ false → Named consumers t
 unfolding badEntry
 entry-named consumers t e =
     let a = none-of _ e in
@@ -35,12 +35,8 @@ pub met : (v : ℕ → ℕ) (t : Transfer) → overdrawn v t ≡ false → (t .a
 unfolding overdrawn
 met v t e = let a = none-of _ e in (ltb-false _ _ (a .0), high-clear _ (a .1 .0))
 
--- What an entry leaves of its giver and of its taker.
+-- What an entry leaves of its taker and of its giver.
 module _ (v : ℕ → ℕ) (t : Transfer) where
-  pub giver-moved : moved v t (t .giver) ≡ v (t .giver) - t .amount
-  unfolding moved
-  giver-moved = rw (eq-eqb (t .giver) (t .giver) refl)
-
   pub taker-moved : (t .giver ≡ t .taker → ⊥) → moved v t (t .taker) ≡ v (t .taker) + t .amount
   unfolding moved
   taker-moved n = rw (ne-eqb (t .taker) (t .giver) (λ e. n (sym e)), eq-eqb (t .taker) (t .taker) refl)
@@ -63,24 +59,24 @@ module _ (v : ℕ → ℕ) (t : Transfer) where
 
 -- The same volumes below a count, as far as an entry that names consumers below it can tell.
 module _ (v w : ℕ → ℕ) (n : ℕ) (same : (c : ℕ) → c < n → v c ≡ w c) (t : Transfer) where
-  pub moved-same : (c : ℕ) → c < n → moved v t c ≡ moved w t c
+  moved-same : (c : ℕ) → c < n → moved v t c ≡ moved w t c
   unfolding moved
   moved-same c l = rw (same c l)
 
-  pub overdrawn-same : Named n t → overdrawn v t ≡ overdrawn w t
+  overdrawn-same : Named n t → overdrawn v t ≡ overdrawn w t
   unfolding overdrawn
   overdrawn-same k = rw (same _ (k .giver), same _ (k .taker))
 
 -- An entry that is met keeps the sum of the first n volumes, and each below the ceiling.
 module _ (v : ℕ → ℕ) (n : ℕ) (t : Transfer) (k : Named n t) (fair : overdrawn v t ≡ false) where
-  pub sum-moved : sum (moved v t) n ≡ sum v n
+  sum-moved : sum (moved v t) n ≡ sum v n
   sum-moved =
       let a = met v t fair in
       let lowered : sum (given v t) n + v (t .giver) ≡ sum v n + given v t (t .giver) = sum-one (given v t) v (t .giver) n (k .giver) (λ c b g. given-other v t c g) in
       let raised : sum (moved v t) n + given v t (t .taker) ≡ sum (given v t) n + moved v t (t .taker) = sum-one (moved v t) (given v t) (t .taker) n (k .taker) (λ c b o. moved-given v t c o) in
       omega (arith, a .0, given-giver v t, given-other v t (t .taker) (λ e. k .apart (sym e)), taker-moved v t (k .apart))
 
-  pub moved-within : ((c : ℕ) → c < n → v c ≤ tenthsCeiling) → (c : ℕ) → c < n → moved v t c ≤ tenthsCeiling
+  moved-within : ((c : ℕ) → c < n → v c ≤ tenthsCeiling) → (c : ℕ) → c < n → moved v t c ≤ tenthsCeiling
   unfolding moved
   moved-within w c l = go (eqb c (t .giver)) (eqb c (t .taker)) refl
     where
@@ -141,7 +137,7 @@ unfolding listTests applies
 names-clear consumers l e i b =
     entry-named _ _ (any-clear _ _ (none-of _ (none-applies (listTests consumers l) tt e 13) .1 .0) i b)
 
-pub turns-clear : (v : ℕ → ℕ) (l : List ℕ) → firstOf (turnTests v l) ≡ 0 → (i : ℕ) → i < entries l → overdrawnAt v l i ≡ false
+turns-clear : (v : ℕ → ℕ) (l : List ℕ) → firstOf (turnTests v l) ≡ 0 → (i : ℕ) → i < entries l → overdrawnAt v l i ≡ false
 unfolding turnTests applies
 turns-clear v l e = any-clear _ _ (none-applies (turnTests v l) tt e 15)
 

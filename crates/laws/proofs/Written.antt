@@ -3,7 +3,7 @@ use mathlib.Core.Path.{_≡_, refl, sym, ap, _∙_}
 use mathlib.Core.Bool.{Bool, true, false}
 use mathlib.Core.List.{List, _++_}
 use mathlib.Core.Logic.{⊎-elim}
-use Prim.Native.Nat.{ℕ, zero, suc, _+_, _-_, _*_, _^_, _≤_, _<_}
+use Prim.Native.Nat.{ℕ, zero, suc, _+_, _-_, _^_, _≤_, _<_}
 use native.Mathlib.Nat.{eq-or-lt-of-le, le-of-suc-le-suc}
 use native.Mathlib.Numerals.{add-one}
 use native.Mathlib.Omega.{arith}
@@ -79,11 +79,6 @@ module _ (l : Layout) (v : ℕ → ℕ) (s : List ℕ) where
   contracts-keep (suc n) r i o =
       overAt-keeps (contractAt l n) (bytesOf 4 (v n)) (withContracts l v n s) (fits n r) i (λ b. rw length-bytesOf (o n (omega arith) b))
       ∙ contracts-keep n (fewer n r) i (λ c b. o c (omega arith))
-
-  -- A field that no contract volume touches is kept.
-  pub field-kept : (n : ℕ) → Room n → (w at : ℕ) → ((i : ℕ) → i < w → Outside l n (at + i))
-      → bigEndian w (withContracts l v n s) at ≡ bigEndian w s at
-  field-kept n r w at o = same-bytes w (withContracts l v n s) s at at (λ i b. contracts-keep n r (at + i) (o i b))
 
   -- The last contract volume is read where it was written, and leaves the others.
   own-read : (n : ℕ) → Room (suc n) → v n < 256 ^ 4 → bigEndian 4 (withContracts l v (suc n) s) (contractAt l n) ≡ v n

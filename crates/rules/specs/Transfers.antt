@@ -27,7 +27,7 @@ badEntry consumers t =
     ∷ eqb (t .giver) (t .taker)
     ∷ [])
 
--- 13, before the entries: no whole front; a length field that is wrong about the bytes, or leaves no whole entries; another version.
+-- 13, before the entries: no whole front; a length field that is wrong about the bytes, or ends inside an entry; another version.
 unfoldable pub badFront : List ℕ → Bool
 badFront l =
     oneOf

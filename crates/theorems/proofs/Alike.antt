@@ -1,21 +1,19 @@
 -- Alike months have one result: by demand 3's relation, read in both directions. Assumes nothing.
 use mathlib.Core.Path.{_≡_, refl, sym, ap, ap₂, _∙_}
 use mathlib.Core.List.{List, _++_}
-use Prim.Native.Nat.{ℕ, zero, suc, _≤_, _<_}
+use Prim.Native.Nat.{ℕ, zero, suc, _<_}
 use native.Mathlib.Nat.{le-of-eq, le-antisymm}
 use native.Mathlib.Omega.{arith}
 use Rattle.rules.specs.declared.Header.{Header}
-use Rattle.rules.specs.declared.Row.{Row}
-use Rattle.rules.specs.declared.Consumer.{Consumer}
 use Rattle.rules.specs.Month.{Producer, Month, hours}
-use Rattle.rules.specs.Limits.{HeaderLimits, ProducerLimits, RowLimits, ConsumerLimits, MonthLimits}
+use Rattle.rules.specs.Limits.{ProducerLimits, MonthLimits}
 use Rattle.rules.specs.Cut.{afterCut}
 use Rattle.rules.specs.Rows.{actual, payment}
 use Rattle.rules.specs.Consumers.{credit, countedPeak, percent, band, volume, charge}
 use Rattle.rules.specs.Totals.{totalPaid, totalCharged}
 use Rattle.rules.specs.Fields.{laid, joined}
 use Rattle.rules.specs.Result.{RowFigures, ConsumerFigures, TotalFigures, rowFigures, consumerFigures, totalFigures, rowFields, consumerFields, totalFields, headFields, rowRecord, consumerRecord, resultOf}
-use Rattle.theorems.specs.Demand3.{WorseProducer, WorseConsumer, Worse}
+use Rattle.theorems.specs.Demand3.{WorseProducer, Worse}
 use Rattle.theorems.specs.Alike.{SameProducer, Alike}
 use Rattle.theorems.proofs.Rows as Rows
 use Rattle.theorems.proofs.Months as Months
@@ -140,7 +138,7 @@ module _ (m m′ : Month) (a : Alike m m′) (w : MonthLimits m) where
       le-antisymm (Rows.cut-down m m′ (a .header) j l (down .producer _ (w .row j l .producer)) (Months.own-rows m m′ (a .header) w down _))
       (Rows.cut-down m′ m (sym (a .header)) j (there rows′ l) (up .producer _ (w′ .row j (there rows′ l) .producer)) (Months.own-rows m′ m (sym (a .header)) w′ up _))
 
-  pub same-row : (j : ℕ) → j < m .header .rows → rowFigures m′ j ≡ rowFigures m j
+  same-row : (j : ℕ) → j < m .header .rows → rowFigures m′ j ≡ rowFigures m j
   same-row j l =
       let ea : actual m′ j ≡ actual m j = le-antisymm (Months.actual-down m m′ (a .header) w down j l) (Months.actual-down m′ m (sym (a .header)) w′ up j (there rows′ l)) in
       let ep : payment m′ j ≡ payment m j = le-antisymm (Months.payment-down m m′ (a .header) w down j l) (Months.payment-down m′ m (sym (a .header)) w′ up j (there rows′ l)) in
@@ -149,11 +147,11 @@ module _ (m m′ : Month) (a : Alike m m′) (w : MonthLimits m) where
   same-credit : (c : ℕ) → credit m′ c ≡ credit m c
   same-credit c = le-antisymm (Months.credit-down m m′ (a .header) w down c) (Months.credit-down m′ m (sym (a .header)) w′ up c)
 
-  pub same-consumer : (c : ℕ) → c < m .header .consumers → consumerFigures m′ c ≡ consumerFigures m c
+  same-consumer : (c : ℕ) → c < m .header .consumers → consumerFigures m′ c ≡ consumerFigures m c
   unfolding charge volume band percent countedPeak
   same-consumer c l = rw (same-credit c, a .consumer c l, a .header)
 
-  pub same-totals : totalFigures m′ ≡ totalFigures m
+  same-totals : totalFigures m′ ≡ totalFigures m
   same-totals =
       let paid : totalPaid m′ ≡ totalPaid m = le-antisymm (Months.paid-down m m′ (a .header) w down) (Months.paid-down m′ m (sym (a .header)) w′ up) in
       let charged : totalCharged m′ ≡ totalCharged m = le-antisymm (Months.charged-up m′ m (sym (a .header)) w′ up) (Months.charged-up m m′ (a .header) w down) in

@@ -1,5 +1,5 @@
 -- The theorems that the requests state, for the auditor: each by name, with its statement. The proofs are in the other files. Assumes nothing.
-use mathlib.Core.Path.{_≡_, sym}
+use mathlib.Core.Path.{_≡_}
 use mathlib.Core.List.{List}
 use Prim.Native.Nat.{ℕ, _<_}
 use lib.ListN.{length}

@@ -11,11 +11,11 @@ use lib.ListN.{length, getD}
 use Rattle.rules.specs.declared.Header.{Header}
 use Rattle.rules.specs.declared.Consumer.{Consumer}
 use Rattle.rules.specs.declared.Layout.{Layout}
-use Rattle.rules.specs.Month.{Month, hours}
+use Rattle.rules.specs.Month.{hours}
 use Rattle.rules.specs.Units.{tenthsCeiling}
 use Rattle.rules.specs.Limits.{HeaderLimits, FormLimits, MonthLimits}
 use Rattle.rules.specs.Fields.{bigEndian, over}
-use Rattle.rules.specs.Sheet.{version, lengthField, headerOf, layoutOf, monthOf, monthUnder, hoursWidth, consumerWidth, producerAt, hoursAt, power, producerUnder, rowAt, rowOf, consumerAt, consumerOf, contractAt, sheetLength, withContracts}
+use Rattle.rules.specs.Sheet.{version, lengthField, headerOf, layoutOf, monthOf, monthUnder, hoursWidth, producerAt, hoursAt, power, producerUnder, rowAt, rowOf, consumerAt, consumerOf, contractAt, sheetLength, withContracts}
 use Rattle.rules.specs.Result.{resultLength, resultOf}
 use Rattle.rules.specs.Refusals.{frontTests, headerTests, formTests, roomTests, figureTests, sheetTests, tests, firstOf, refusal}
 use Rattle.rules.specs.Outcome.{Accepted, bufferAfter}
@@ -25,7 +25,7 @@ use Rattle.laws.proofs.Range.{sum-same}
 use Rattle.laws.proofs.Fields.{same-bytes}
 use Rattle.laws.proofs.Sheet.{consumer-inside}
 use Rattle.laws.proofs.Refusals.{first-append, first-next, first-both, both-first, form-numbered, limits, accepted}
-use Rattle.laws.proofs.Written.{Outside, Room, length-contracts, contracts-keep, field-kept, contract-read}
+use Rattle.laws.proofs.Written.{Outside, Room, length-contracts, contracts-keep, contract-read}
 use Rattle.laws.proofs.Transfers.{AllNamed, list-numbered, names-clear, sheet-numbered, applied-limits, after-same, turns-same, sum-after, after-within}
 use Rattle.theorems.specs.Demand3.{Worse, WorseSheet, NoBetter}
 use Rattle.theorems.specs.Alike.{SameProducer, Alike}
@@ -64,10 +64,10 @@ module _ (s : List ℕ) (form : FormLimits s) (v : ℕ → ℕ) where
   room : Room (layoutOf s) v s (headerOf s .consumers)
   room c b = omega (arith, consumer-inside (layoutOf s) c b, form .length-right, form .length-told)
 
-  pub as-long : length after ≡ length s
+  as-long : length after ≡ length s
   as-long = length-contracts (layoutOf s) v s (headerOf s .consumers) room
 
-  pub kept : (i : ℕ) → Outside (layoutOf s) (headerOf s .consumers) i → getD after i 0 ≡ getD s i 0
+  kept : (i : ℕ) → Outside (layoutOf s) (headerOf s .consumers) i → getD after i 0 ≡ getD s i 0
   kept i o = contracts-keep (layoutOf s) v s (headerOf s .consumers) room i o
 
   -- A field before the consumers.
@@ -88,7 +88,7 @@ module _ (s : List ℕ) (form : FormLimits s) (v : ℕ → ℕ) where
   in-header : (w at : ℕ) → at + w ≤ 14 → bigEndian w after at ≡ bigEndian w s at
   in-header w at e = front w at (omega (arith, header-ends (layoutOf s)))
 
-  pub same-layout : layoutOf after ≡ layoutOf s
+  same-layout : layoutOf after ≡ layoutOf s
   unfolding version
   same-layout =
       rw (
@@ -155,7 +155,7 @@ module _ (s : List ℕ) (form : FormLimits s) (v : ℕ → ℕ) where
           rest c 4 11 (omega arith) (omega arith),
         )
 
-    pub month-after : Alike (withVolumes (monthOf s) v) (monthOf after)
+    month-after : Alike (withVolumes (monthOf s) v) (monthOf after)
     month-after =
         subst (λ (x : Layout). Alike (withVolumes (monthOf s) v) (monthUnder x after)) (sym same-layout)
         (record { header = refl; producer = same-producer; row = same-row; consumer = same-consumer })
@@ -194,7 +194,7 @@ module _ (s : List ℕ) (form : FormLimits s) (v : ℕ → ℕ) where
           length-right = same-length-field ∙ form .length-right ∙ ap sheetLength (sym same-layout);
         }
 
-    pub stays : (bytes : ℕ) → Accepted s bytes → Accepted after bytes
+    stays : (bytes : ℕ) → Accepted s bytes → Accepted after bytes
     stays bytes a =
         let w = limits s bytes a in
         accepted after bytes
@@ -205,7 +205,7 @@ module _ (s : List ℕ) (form : FormLimits s) (v : ℕ → ℕ) where
         })
 
     -- And its result is that of the month with these volumes.
-    pub result-after : MonthLimits (monthOf s) → resultOf (monthOf after) ≡ resultOf (withVolumes (monthOf s) v)
+    result-after : MonthLimits (monthOf s) → resultOf (monthOf after) ≡ resultOf (withVolumes (monthOf s) v)
     result-after w = alike-result (withVolumes (monthOf s) v) (monthOf after) month-after (with-limits w)
 
 -- A list of transfers, and the sheet afterwards.
@@ -251,7 +251,7 @@ module _ (s t : List ℕ) where
         sum-same _ _ (ap (λ (x : Layout). x .header .consumers) (same-layout s form (volumesAfter (monthOf s) t))) volumes-read
         ∙ (unfold volumesAfter in sum-after t (headerOf s .consumers) names (contracts (monthOf s)) (entries t) (le-refl _) (applied-limits s t none .1 .fair) (entries t) (le-refl _))
 
-    pub with-kept : MonthLimits (withVolumes (monthOf s) (volumesAfter (monthOf s) t))
+    with-kept : MonthLimits (withVolumes (monthOf s) (volumesAfter (monthOf s) t))
     with-kept = with-limits s form (volumesAfter (monthOf s) t) small month-kept
 
     pub is-applied : transferred s t ≡ applied-sheet
@@ -314,7 +314,7 @@ module _ (s s′ t : List ℕ) (w : WorseSheet s s′) where
       go false e = refl
 
   module _ (room room′ : ℕ) (a : Accepted s room) (a′ : Accepted s′ room′) where
-    pub same-refusal : transferRefusal s′ t ≡ transferRefusal s t
+    same-refusal : transferRefusal s′ t ≡ transferRefusal s t
     unfolding transferRefusal transferTests
     same-refusal =
         sym (first-next (sheetTests s′) _ (sheet-numbered s′) (accepted-own s′ room′ a′))

@@ -11,7 +11,7 @@ use lib.ListN.{length}
 use Rattle.rules.specs.declared.Layout.{Layout}
 use Rattle.rules.specs.Range.{any}
 use Rattle.rules.specs.Units.{tenthsCeiling}
-use Rattle.rules.specs.Sheet.{headerOf, layoutOf, monthOf, monthUnder, sheetLength, withContracts}
+use Rattle.rules.specs.Sheet.{layoutOf, monthOf, monthUnder, sheetLength, withContracts}
 use Rattle.rules.specs.Refusals.{sheetTests, firstOf}
 use Rattle.rules.specs.Outcome.{refused, written}
 use Rattle.rules.specs.TransferList.{entries}
@@ -19,7 +19,7 @@ use Rattle.rules.specs.Transfers.{contracts, listTests, turnTests, transferTest
 use Rattle.laws.proofs.Arrays.{Agrees, filled, getD-listed, length-listed}
 use Rattle.laws.proofs.Refusals.{first-stands, first-next}
 use Rattle.laws.proofs.Written.{contracts-same}
-use Rattle.laws.proofs.Transfers.{Named, AllNamed, list-numbered, names-clear, sheet-numbered, sheet-limits, after-same, turns-same}
+use Rattle.laws.proofs.Transfers.{AllNamed, list-numbered, names-clear, sheet-numbered, sheet-limits, after-same, turns-same}
 use Rattle.units.specs.declared.Tenths.{Tenths}
 use Rattle.units.specs.Sums.{tenths}
 use Rattle.transfers.specs.declared.volumes.Volumes.{Volumes}

@@ -13,7 +13,7 @@ use Rattle.rules.specs.TransferList.{entry}
 use Rattle.rules.specs.Transfers.{afterEntries, overdrawn, overdrawnAt}
 use Rattle.laws.specs.Bounds.{mostWord}
 use Rattle.laws.proofs.Arrays.{Agrees, agrees-set}
-use Rattle.laws.proofs.Transfers.{Named, taker-moved, given, given-giver, given-other, moved-given, after-more}
+use Rattle.laws.proofs.Transfers.{Named, taker-moved, given-giver, given-other, moved-given, after-more}
 use Rattle.units.specs.declared.Tenths.{Tenths}
 use Rattle.units.specs.Sums.{tenths, added}
 use Rattle.units.proofs.Adding.{added-exact}

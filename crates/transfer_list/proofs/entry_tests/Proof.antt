@@ -3,7 +3,7 @@ use borrow.Author.Needs.{needs}
 use mathlib.Core.Path.{_≡_, sym, ap, _∙_}
 use Prim.Native.Nat.{_-_, _≤_, zero-le}
 use Rattle.rules.specs.Range.{any}
-use Rattle.rules.specs.TransferList.{entries, entry}
+use Rattle.rules.specs.TransferList.{entry}
 use Rattle.rules.specs.Transfers.{badEntry}
 use Rattle.rules.specs.Transfers as Transfers
 use Rattle.laws.proofs.Range.{any-start, any-fold, any-done}

@@ -47,8 +47,7 @@ loop-again c =
     let a = c .before .before .before .before .before .before in
     let l = c .before .before .before .before .loop in
     let below = c .before .before .if1 .taken in
-    let there = ap (λ (k : Consumer). k .contract) (c .before .consumer .ensures ∙ consumer-there (a .args .layout) (a .args .s .now) (l .c) (a .pre .0) below) in
-    (
+    let there = ap (λ (k : Consumer). k .contract) (c .before .consumer .ensures ∙ consumer-there (a .args .layout) (a .args .s .now) (l .c) (a .pre .0) below) in (
       filled-more 32 (tenths 0) (tenths 0) _ (l .c) (omega (arith, below, a .pre .1)) (ap tenths (c .stated .ensures .0 ∙ there)) (l .inv .0),
       omega (arith, below),
     )

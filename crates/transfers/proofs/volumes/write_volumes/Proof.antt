@@ -4,7 +4,7 @@ use mathlib.Core.Path.{_≡_, refl, sym, ap, _∙_}
 use Prim.Native.Nat.{_+_, _-_, _≤_, zero-le}
 use lib.ListN.{length}
 use Rattle.rules.specs.Fields.{bytesOf, overAt}
-use Rattle.rules.specs.Sheet.{consumerWidth, contractAt, withContracts}
+use Rattle.rules.specs.Sheet.{contractAt, withContracts}
 use Rattle.laws.proofs.Fields.{length-bytesOf}
 use Rattle.laws.proofs.Sheet.{consumer-inside}
 use Rattle.laws.proofs.Written.{length-overAt, contracts-more}
