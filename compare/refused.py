@@ -52,12 +52,12 @@ def surplus_of(count):
 def lost_bytes(rng, sheet, pick):
     """The sheet is cut short, its length field is not."""
     sheet.stated_length = len(sheet.to_bytes())
-    sheet.surplus = -rng.randrange(1, 15)
+    sheet.surplus -= rng.randrange(1, 15)
 
 
 def added_bytes(rng, sheet, pick):
     sheet.stated_length = len(sheet.to_bytes())
-    sheet.surplus = rng.randrange(1, 50)
+    sheet.surplus += rng.randrange(1, 50)
 
 
 def version_is(figure):

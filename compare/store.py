@@ -7,7 +7,7 @@ OUTDIR/GROUP holds cases one after another: sheet length (4 bytes, highest first
 kind of answer (1: 0 result, 1 refusal), byte count or refusal number (4), the sheet, for kind 0 the result.
 OUTDIR/transfers holds sheets with lists of transfers: sheet length (4), list length (4), kind of answer (1: 0 done,
 1 refusal), byte count 0 or refusal number (4), the sheet, the list, and the sheet afterwards, which after a refusal is
-the sheet again. FILE gets a line for each file, its name and its count of cases, in a fixed order.
+the sheet again. FILE gets a line for each file of sheets, its name and its count of cases, in a fixed order.
 """
 import argparse
 import random
@@ -169,7 +169,7 @@ def main():
     programs.make_folder(options.outdir)
     for group, stored in files.items():
         programs.write_file(Path(options.outdir) / group, b"".join(stored))
-    lines = "".join(f"{group} {len(stored)}\n" for group, stored in files.items())
+    lines = "".join(f"{group} {len(files[group])}\n" for group in PLAN)
     if options.expect:
         programs.write_file(options.expect, lines.encode())
     print(f"stored: {sum(map(len, files.values()))} cases in {len(files)} files, {total} bytes")

@@ -2,7 +2,9 @@
 import csv
 import io
 import json
+import struct
 import tempfile
+from itertools import accumulate, pairwise
 
 import programs
 import records
@@ -10,6 +12,7 @@ import transfers
 from checks import EXAMPLES, TRANSFER_PROGRAM, check, files_in, report, run, turned_down, words_of
 from transfers import Transfer
 
+STORED = EXAMPLES.parent / "crates" / "vectors" / "data" / "transfers"
 MONTHS = EXAMPLES / "month.toml", EXAMPLES / "month.sheet"
 CHANGED = (EXAMPLES / "month-transferred.sheet").read_bytes()
 LISTING = (EXAMPLES / "month-transferred.listing").read_text()
@@ -35,10 +38,31 @@ def contracts(content):
     return [consumer.contract for consumer in records.Sheet.from_bytes(content).consumers]
 
 
+def written(packed, content):
+    """What the program writes that applies lists."""
+    return run("sh", "-c", 'exec "$0" 3<"$1"', TRANSFER_PROGRAM, packed, stdin=content).stdout
+
+
+def stored_lists():
+    """Each stored sheet with its list, and what the rival answered: the sheet afterwards, or the line of a refusal."""
+    content, place = STORED.read_bytes(), 0
+    while place < len(content):
+        sheet, listed, refused, number = struct.unpack_from(">IIBI", content, place)
+        ends = list(accumulate((place + 13, sheet, listed, sheet)))
+        parts = [content[start:end] for start, end in pairwise(ends)]
+        yield parts[0], parts[1], f"N{number}\n".encode() if refused else parts[2]
+        place = ends[-1]
+
+
+def test_stored(folder):
+    """The program that applies lists, alone, on the stored cases."""
+    for count, (sheet, packed, answer) in enumerate(stored_lists()):
+        (folder / "list").write_bytes(packed)
+        check(written(folder / "list", sheet) == answer, f"transfer_sheet: stored list {count}")
+
+
 def test_program():
-    """The program that applies lists, alone: the sheet afterwards, or the number; every list of the examples."""
-    def written(packed, content):
-        return run("sh", "-c", 'exec "$0" 3<"$1"', TRANSFER_PROGRAM, packed, stdin=content).stdout
+    """The same with every list of the examples."""
     month = MONTHS[1].read_bytes()
     check(written(EXAMPLES / "transfers.list", month) == CHANGED, "transfer_sheet: the sheet afterwards")
     for number in REFUSED:

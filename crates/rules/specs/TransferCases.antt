@@ -2,11 +2,12 @@
 -- contract volumes that a list leaves. Figures are in tenths of a megawatt.
 use Prim.Native.Nat.{ℕ}
 use mathlib.Core.List.{List, [], _∷_, _++_}
-use lib.ListN.{length, replicate}
+use lib.ListN.{getD, replicate}
 use Rattle.rules.specs.Month.{Consumer}
-use Rattle.rules.specs.Sheet.{monthOf}
+use Rattle.rules.specs.Refusals.{firstOf}
+use Rattle.rules.specs.TransferList.{entries}
 use Rattle.rules.specs.Outcome.{refused, written}
-use Rattle.rules.specs.Transfers.{contracts, transferRefusal, transferOutcome, transferred, withVolumes}
+use Rattle.rules.specs.Transfers.{afterEntries, listTests, turnTests, transferRefusal, transferOutcome, transferred, withVolumes}
 use Rattle.rules.specs.Samples.{consumer, month, Figure, figure, wrong}
 use Rattle.rules.specs.Open.{settlement, layout, transfers}
 use mathlib.Core.Path.{_≡_, refl}
@@ -42,12 +43,15 @@ one a = listOf 12 1 a
 abbrev two : List ℕ → List ℕ → List ℕ
 two a b = listOf 19 1 (a ++ b)
 
-abbrev number : List ℕ → ℕ
-number l = transferRefusal plain l
+-- A list by itself, for those three consumers: its number, and a consumer's contract volume after its entries.
+abbrev volumes : ℕ → ℕ
+volumes c = getD (1000 ∷ 500 ∷ 99000 ∷ []) c 0
 
--- A consumer's contract volume after a list, as its bytes have it.
+abbrev number : List ℕ → ℕ
+number l = firstOf (listTests 3 l ++ turnTests volumes l)
+
 abbrev volumeOf : List ℕ → ℕ → ℕ
-volumeOf l c = contracts (monthOf (transferred plain l)) c
+volumeOf l c = afterEntries volumes l (entries l) c
 
 unfoldable pub listCases : List Figure
 listCases =
@@ -96,7 +100,9 @@ listCases =
     -- the order of the numbers: a late entry and one past the month's days behind it; one that asks too much and a late one behind it
     ∷ figure (number (two (filed 21 0 1 0 1) (filed 0 0 1 0 1))) 13
     ∷ figure (number (two (filed 1 1 0 1 245) (filed 21 0 1 0 1))) 14
-    -- the sheet's own numbers come first: z 0.9; version 2. Both lists have no whole front
+    -- with a sheet: no whole front; the last order again; then the sheet's numbers come first (z 0.9; version 2)
+    ∷ figure (transferRefusal plain []) 13
+    ∷ figure (transferRefusal plain (two (filed 1 1 0 1 245) (filed 21 0 1 0 1))) 14
     ∷ figure (transferRefusal (threeConsumers 1 (0 ∷ 0 ∷ 0 ∷ 0 ∷ []) (0 ∷ 0 ∷ 0 ∷ 0 ∷ []) (0 ∷ 0 ∷ 0 ∷ 0 ∷ []) 9) []) 12
     ∷ figure (transferRefusal (threeConsumers 2 (0 ∷ 0 ∷ 0 ∷ 0 ∷ []) (0 ∷ 0 ∷ 0 ∷ 0 ∷ []) (0 ∷ 0 ∷ 0 ∷ 0 ∷ []) 10) []) 3
     ∷ []

@@ -1,29 +1,27 @@
-// Settles the stored sheets, applies the stored lists of transfers, and compares every answer and every byte with what the rival program
-// answered. A file holds the cases of one kind; a line with the kind and its count of cases is printed where all of them agree.
+// Settles the stored sheets and compares every answer and every byte with what the rival program answered.
+// A file holds the cases of one kind; a line with the kind and its count of cases is printed where all of them agree.
 use fields::byte;
 use fields::word;
 use libc::STDOUT_FILENO;
 use rules::Answer;
 use settlement::settle;
 
-mod lists;
-
-// What stands before a case's bytes: the sheet's length, the length of the result buffer or of the list, and the rival's answer, which is
-// a refusal's number or the count of bytes written.
-pub struct Case {
-    pub length: usize,
-    pub room: usize,
-    pub refused: bool,
-    pub number: usize,
+// What stands before a case's sheet: the sheet's length, the result buffer's length, and the rival's answer, which is a refusal's number
+// or the count of the bytes that follow the sheet.
+struct Case {
+    length: usize,
+    room: usize,
+    refused: bool,
+    number: usize,
 }
 
-pub enum Compared {
+enum Compared {
     Alike,
     Different,
     NoMore,
 }
 
-pub(crate) fn case_of(front: &[u8]) -> Case {
+fn case_of(front: &[u8]) -> Case {
     Case {
         length: word(front, 0) as usize,
         room: word(front, 4) as usize,
@@ -33,7 +31,7 @@ pub(crate) fn case_of(front: &[u8]) -> Case {
 }
 
 // The module answers as the rival did.
-pub(crate) fn same_answer(answer: Answer, c: Case) -> bool {
+fn same_answer(answer: Answer, c: Case) -> bool {
     match answer {
         Answer::Refused(number) => c.refused & (number as usize == c.number),
         Answer::Written(count) => !c.refused & (count == c.number),
@@ -105,25 +103,16 @@ fn compare(file: i32) -> Compared {
     compare_by(file, &mut sheet, &mut told)
 }
 
-// The next case of a file of sheets, or of lists.
-fn next(file: i32, of_lists: bool) -> Compared {
-    if of_lists {
-        lists::compare(file)
-    } else {
-        compare(file)
-    }
-}
-
 // How many cases of a file agree, and whether those were all.
 struct Tally {
     count: u64,
     all: bool,
 }
 
-fn tally_of(file: i32, of_lists: bool) -> Tally {
+fn tally_of(file: i32) -> Tally {
     let mut n: u64 = 0;
     while n < 10000 {
-        let seen = next(file, of_lists);
+        let seen = compare(file);
         match seen {
             Compared::Alike => n += 1,
             Compared::Different => return Tally {
@@ -147,13 +136,13 @@ fn print(text: &[u8]) {
 }
 
 // The cases of one kind: the kind and their count, or the number of the first that differs.
-fn cases(name: &[u8], of_lists: bool) {
+fn kind(name: &[u8]) {
     let file = os::open_read(name);
     if file < 0 {
         os::fail(name);
         return;
     }
-    let seen = tally_of(file, of_lists);
+    let seen = tally_of(file);
     libc::close(file);
     print(name);
     if !seen.all {
@@ -162,11 +151,6 @@ fn cases(name: &[u8], of_lists: bool) {
     print(b" ");
     io::print_decimal(STDOUT_FILENO, seen.count);
     print(b"\n");
-}
-
-// Sheets of one kind.
-fn kind(name: &[u8]) {
-    cases(name, false);
 }
 
 // Document 01's own months, and the slips.
@@ -221,5 +205,4 @@ fn main() {
     last_refusals();
     settled();
     limits();
-    cases(b"transfers", true);
 }

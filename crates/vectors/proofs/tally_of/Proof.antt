@@ -4,16 +4,16 @@ use Rattle.vectors.proofs.tally_of.Statement.{statement}
 use Rattle.vectors.proofs.tally_of.Tie as tie
 
 abbrev Inv-loop : tie.InvT-loop
-Inv-loop file of_lists n₀ n = n ≤ 10000
+Inv-loop file n₀ n = n ≤ 10000
 
 abbrev μ-loop : tie.MeasureT-loop
-μ-loop file of_lists n₀ n = 10000 - n
+μ-loop file n₀ n = 10000 - n
 
 loop-holds : tie.Need-loop-holds Inv-loop μ-loop
 loop-holds c = search needs
 
-next-requires : tie.Need-next-requires Inv-loop μ-loop
-next-requires c κs = search needs
+compare-requires : tie.Need-compare-requires Inv-loop μ-loop
+compare-requires c κs = search needs
 
 enum-told : tie.Need-enum-told Inv-loop μ-loop
 enum-told c = search needs
@@ -49,7 +49,7 @@ tally-of-spec =
     Inv-loop
     μ-loop
     loop-holds
-    next-requires
+    compare-requires
     enum-told
     add-n
     loop-less
