@@ -22,7 +22,7 @@ use Rattle.laws.proofs.Written.{contracts-same}
 use Rattle.laws.proofs.Transfers.{AllNamed, list-numbered, names-clear, sheet-numbered, sheet-limits, after-same, turns-same}
 use Rattle.units.specs.declared.Tenths.{Tenths}
 use Rattle.units.specs.Sums.{tenths}
-use Rattle.transfers.specs.declared.volumes.Volumes.{Volumes}
+use Rattle.transfers.specs.declared.contracts.Volumes.{Volumes}
 use Rattle.transfers.specs.Held.{held, read, Within}
 
 -- The volumes of the first n consumers are read where they are held; with them, none of the 32 is above the ceiling.

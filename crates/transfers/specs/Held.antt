@@ -6,7 +6,7 @@ use Rattle.rules.specs.Units.{tenthsCeiling}
 use Rattle.laws.specs.Lists.{listed}
 use Rattle.laws.proofs.Arrays.{filled}
 use Rattle.units.specs.Sums.{tenths}
-use Rattle.transfers.specs.declared.volumes.Volumes.{Volumes}
+use Rattle.transfers.specs.declared.contracts.Volumes.{Volumes}
 
 -- The volumes v 0, .., v (n - 1), and 0 past them.
 abbrev pub held : ℕ → (ℕ → ℕ) → Volumes

@@ -7,12 +7,12 @@ use rules::Answer;
 use sheet::layout;
 use transfer_list::list_refusal;
 
+mod contracts;
 mod turns;
-mod volumes;
 
+use contracts::read_volumes;
+use contracts::write_volumes;
 use turns::after_entries;
-use volumes::read_volumes;
-use volumes::write_volumes;
 
 // Applies a list of transfers to the contract volumes of a sheet, in the list's order. A refusal changes no byte: every number is decided
 // before the first byte is written. Where the list is applied the count is 0.

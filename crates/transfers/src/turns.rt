@@ -10,7 +10,7 @@ ghost use Rattle.laws.proofs.Arrays.{Agrees};
 ghost use Rattle.laws.proofs.Transfers.{AllNamed};
 ghost use Rattle.units.specs.Sums.{tenths};
 ghost use Rattle.transfers.specs.Held.{read, Within};
-use crate::volumes::Volumes;
+use crate::contracts::Volumes;
 use transfer_list::entry;
 use transfer_list::entry_count;
 use units::Tenths;

@@ -13,7 +13,7 @@ use Rattle.laws.proofs.Arrays.{Agrees}
 use Rattle.laws.proofs.Range.{any-start, any-more, any-hit, any-clear}
 use Rattle.laws.proofs.Transfers.{Named, after-within}
 use Rattle.units.specs.Sums.{tenths}
-use Rattle.transfers.specs.declared.volumes.Volumes.{Volumes}
+use Rattle.transfers.specs.declared.contracts.Volumes.{Volumes}
 use Rattle.transfers.specs.Held.{read}
 use Rattle.transfers.proofs.Turn.{decided, written}
 use Rattle.transfers.proofs.turns.after_entries.Statement.{statement}

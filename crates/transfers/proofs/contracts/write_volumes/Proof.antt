@@ -10,8 +10,8 @@ use Rattle.laws.proofs.Sheet.{consumer-inside}
 use Rattle.laws.proofs.Written.{length-overAt, contracts-more}
 use Rattle.writing.proofs.Lent.{placed-at}
 use Rattle.transfers.specs.Held.{read}
-use Rattle.transfers.proofs.volumes.write_volumes.Statement.{statement}
-use Rattle.transfers.proofs.volumes.write_volumes.Tie as tie
+use Rattle.transfers.proofs.contracts.write_volumes.Statement.{statement}
+use Rattle.transfers.proofs.contracts.write_volumes.Tie as tie
 
 abbrev Inv-loop : tie.InvT-loop
 Inv-loop s₀ layout volumes c₀ s c =

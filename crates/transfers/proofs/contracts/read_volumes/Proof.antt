@@ -8,8 +8,8 @@ use Rattle.rules.specs.Transfers.{contracts}
 use Rattle.laws.proofs.Arrays.{Agrees, filled, filled-none, filled-more, agrees-listed}
 use Rattle.sheet.proofs.Whole.{consumer-there}
 use Rattle.units.specs.Sums.{tenths}
-use Rattle.transfers.proofs.volumes.read_volumes.Statement.{statement}
-use Rattle.transfers.proofs.volumes.read_volumes.Tie as tie
+use Rattle.transfers.proofs.contracts.read_volumes.Statement.{statement}
+use Rattle.transfers.proofs.contracts.read_volumes.Tie as tie
 
 abbrev Inv-loop : tie.InvT-loop
 Inv-loop s layout volumes₀ c₀ volumes c =
