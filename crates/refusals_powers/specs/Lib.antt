@@ -1,2 +1,2 @@
 pub mod Powers
-pub mod Marks
+pub mod Words
