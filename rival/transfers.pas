@@ -133,13 +133,11 @@ begin
   if Entry.Giver = Entry.Taker then Include(Result, faultSame);
 end;
 
-{ The paper asks for 5 plus a multiple of 7 of the length field. The bytes may be
-  asked instead: where the two differ, the list is refused by 13 all the same. }
 function FaultsOfFront(const List: TTransferList): TListFaults;
 begin
   Result := [];
   if List.LengthField <> List.BytesHandedOver then Include(Result, faultLength);
-  if (List.BytesHandedOver - ListFrontWidth) mod EntryWidth <> 0 then
+  if (Int64(List.LengthField) - ListFrontWidth) mod EntryWidth <> 0 then
     Include(Result, faultMultiple);
   if List.Version <> ListVersion then Include(Result, faultVersion);
 end;
