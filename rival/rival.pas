@@ -229,10 +229,10 @@ end;
 
 function TransferMarks(Refusal: Integer): string;
 begin
-  if (Refusal <> NotRefused) and (Refusal <= LastSheetNumber) then
-    Result := RefusalMark(Refusal)
+  if Refusal in ListNumbers + [NotRefused] then
+    Result := TransferMarksText(Sheet, List, Transferred)
   else
-    Result := TransferMarksText(Sheet, List, Transferred);
+    Result := RefusalMark(Refusal);
 end;
 
 procedure AnswerCases(const InName, OutName: string; OnlyMarks: Boolean);

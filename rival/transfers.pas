@@ -13,6 +13,9 @@ interface
 uses
   sheets;
 
+const
+  ListNumbers = [13..15]; { the refusals of a list }
+
 type
   TEntry = record
     Day: Byte;        { of filing, in the month before }
@@ -39,7 +42,7 @@ type
   TVolumes = array[0..MostConsumers - 1] of Int64; { contract volumes, tenths }
 
   TTransferOutcome = record
-    Refusal: Integer;        { 13 to 15, or NotRefused }
+    Refusal: Integer;        { one of ListNumbers, or NotRefused }
     ListFaults: TListFaults; { the grounds of 13 }
     Applied: Integer;        { entries applied; with 15 the number of the one that fails }
     TurnFaults: TTurnFaults; { the grounds of 15 }
