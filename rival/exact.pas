@@ -8,10 +8,8 @@ unit exact;
 interface
 
 const
-  GroupBase = 1000000000; { a group holds nine decimal digits }
-  MostGroups = 12;        { 108 digits; the settlement needs fewer than 40.
-                            Going past them would be a range error, never a
-                            wrong figure. }
+  MostGroups = 12; { 108 digits; the settlement needs fewer than 40. Going past them
+                     would be a range error, never a wrong figure. }
 
 type
   { A whole number, not below 0, in groups of nine digits, lowest group first.
@@ -26,20 +24,9 @@ type
     Over, Under: TNatural;
   end;
 
-{ Whole numbers }
-function NaturalOf(Value: QWord): TNatural;
-function QWordOf(const Value: TNatural): QWord;
-function CompareNaturals(const A, B: TNatural): Integer; { -1, 0 or 1 }
-function SumOf(const A, B: TNatural): TNatural;
-function DifferenceOf(const A, B: TNatural): TNatural; { A is not below B }
-function ProductOf(const A, B: TNatural): TNatural;
-procedure DivideWithRest(const A, B: TNatural; out Quotient, Rest: TNatural);
-
-{ Fractions }
 function Whole(Value: QWord): TFraction;
 function Part(Over, Under: QWord): TFraction;
 function IsNought(const A: TFraction): Boolean;
-function CompareFractions(const A, B: TFraction): Integer; { -1, 0 or 1 }
 
 operator + (const A, B: TFraction) Outcome: TFraction;
 operator - (const A, B: TFraction) Outcome: TFraction; { A is not below B }
@@ -59,6 +46,7 @@ uses
   SysUtils;
 
 const
+  GroupBase = 1000000000; { a group holds nine decimal digits }
   Nought: TNatural = (Used: 0; Groups: (0, 0, 0, 0, 0, 0, 0, 0, 0, 0, 0, 0));
 
 { ---------------------------------------------------------- whole numbers }
@@ -89,6 +77,7 @@ begin
     Result := Result * QWord(GroupBase) + QWord(Value.Groups[Group]);
 end;
 
+{ -1, 0 or 1 }
 function CompareNaturals(const A, B: TNatural): Integer;
 var
   Group: Integer;
@@ -127,6 +116,7 @@ begin
   end;
 end;
 
+{ A is not below B. }
 function DifferenceOf(const A, B: TNatural): TNatural;
 var
   Group: Integer;
@@ -246,6 +236,7 @@ begin
   Result := A.Over.Used = 0;
 end;
 
+{ -1, 0 or 1 }
 function CompareFractions(const A, B: TFraction): Integer;
 begin
   Result := CompareNaturals(ProductOf(A.Over, B.Under), ProductOf(B.Over, A.Under));

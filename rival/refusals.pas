@@ -11,7 +11,6 @@ uses
 
 const
   NotRefused = 0;
-  LastSheetNumber = 12; { higher numbers are those of entries added later }
   TopCapacity = 100000; { tenths of a megawatt }
 
 { Numbers 1 to 6, which need the header and the count of bytes handed over. }

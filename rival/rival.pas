@@ -196,16 +196,6 @@ begin
   WriteBytes(Target, Concat(Front, FourBytes(Figure), Bytes));
 end;
 
-procedure WriteRefusalAnswer(var Target: file; Refusal: Integer);
-begin
-  WriteAnswer(Target, KindRefusal, Refusal, nil);
-end;
-
-procedure WriteBytesAnswer(var Target: file; const Bytes: TByteSequence);
-begin
-  WriteAnswer(Target, KindBytes, Length(Bytes), Bytes);
-end;
-
 procedure WriteLine(var Target: file; const Line: string);
 var
   Bytes: TByteSequence;
@@ -229,53 +219,57 @@ end;
 
 function TransferMarks(Refusal: Integer): string;
 begin
-  if (Refusal <> NotRefused) and (Refusal <= LastSheetNumber) then
-    Result := RefusalMark(Refusal)
+  if Refusal in ListNumbers + [NotRefused] then
+    Result := TransferMarksText(Sheet, List, Transferred)
   else
-    Result := TransferMarksText(Sheet, List, Transferred);
+    Result := RefusalMark(Refusal);
 end;
 
-procedure AnswerCases(const InName, OutName: string; OnlyMarks: Boolean);
+type
+  { Answers the next case: a refusal's number, or NotRefused and the bytes. False at
+    the file's end. }
+  TAnswerNext = function(var Source: file; out Refusal: Integer;
+    out Answer: TByteSequence): Boolean;
+  TMarksOf = function(Refusal: Integer): string;
+
+function SettleNext(var Source: file; out Refusal: Integer; out Answer: TByteSequence): Boolean;
 var
-  Source, Target: file;
   Bytes: TByteSequence;
   BufferLength: Int64;
-  Refusal: Integer;
 begin
-  OpenForReading(Source, InName);
-  OpenForWriting(Target, OutName);
-  while NextCase(Source, Bytes, BufferLength) do
-  begin
-    Refusal := AnswerTo(Bytes, BufferLength);
-    if OnlyMarks then
-      WriteLine(Target, SheetMarks(Refusal))
-    else if Refusal <> NotRefused then
-      WriteRefusalAnswer(Target, Refusal)
-    else
-      WriteBytesAnswer(Target, ResultBytes(Sheet, Settlement));
-  end;
-  CloseAfterWriting(Target);
-  Close(Source);
+  Result := NextCase(Source, Bytes, BufferLength);
+  if not Result then Exit;
+  Refusal := AnswerTo(Bytes, BufferLength);
+  if Refusal = NotRefused then Answer := ResultBytes(Sheet, Settlement);
 end;
 
-procedure AnswerTransferCases(const InName, OutName: string; OnlyMarks: Boolean);
+function TransferNext(var Source: file; out Refusal: Integer; out Answer: TByteSequence): Boolean;
+var
+  Bytes, ListBytes: TByteSequence;
+begin
+  Result := NextTransferCase(Source, Bytes, ListBytes);
+  if not Result then Exit;
+  Refusal := AnswerToTransfers(Bytes, ListBytes);
+  if Refusal = NotRefused then Answer := SheetBytesAfter(Bytes, Sheet.Header, Transferred);
+end;
+
+{ Writes the answers or, if MarksOf is given, the marks. }
+procedure AnswerCases(const InName, OutName: string; AnswerNext: TAnswerNext;
+  MarksOf: TMarksOf);
 var
   Source, Target: file;
-  Bytes, ListBytes: TByteSequence;
   Refusal: Integer;
+  Answer: TByteSequence;
 begin
   OpenForReading(Source, InName);
   OpenForWriting(Target, OutName);
-  while NextTransferCase(Source, Bytes, ListBytes) do
-  begin
-    Refusal := AnswerToTransfers(Bytes, ListBytes);
-    if OnlyMarks then
-      WriteLine(Target, TransferMarks(Refusal))
+  while AnswerNext(Source, Refusal, Answer) do
+    if Assigned(MarksOf) then
+      WriteLine(Target, MarksOf(Refusal))
     else if Refusal <> NotRefused then
-      WriteRefusalAnswer(Target, Refusal)
+      WriteAnswer(Target, KindRefusal, Refusal, nil)
     else
-      WriteBytesAnswer(Target, SheetBytesAfter(Bytes, Sheet.Header, Transferred));
-  end;
+      WriteAnswer(Target, KindBytes, Length(Answer), Answer);
   CloseAfterWriting(Target);
   Close(Source);
 end;
@@ -330,15 +324,15 @@ begin
   else if (Command = 'trace') and (ParamCount = 2) then
     TraceSheet(FileBytes(ParamStr(2), NoLimit))
   else if (Command = 'batch') and (ParamCount = 3) then
-    AnswerCases(ParamStr(2), ParamStr(3), False)
+    AnswerCases(ParamStr(2), ParamStr(3), @SettleNext, nil)
   else if (Command = 'marks') and (ParamCount = 3) then
-    AnswerCases(ParamStr(2), ParamStr(3), True)
+    AnswerCases(ParamStr(2), ParamStr(3), @SettleNext, @SheetMarks)
   else if (Command = 'transfer') and (ParamCount = 3) then
     TransferInSheet(FileBytes(ParamStr(2), NoLimit), FileBytes(ParamStr(3), NoLimit))
   else if (Command = 'transfers') and (ParamCount = 3) then
-    AnswerTransferCases(ParamStr(2), ParamStr(3), False)
+    AnswerCases(ParamStr(2), ParamStr(3), @TransferNext, nil)
   else if (Command = 'transfermarks') and (ParamCount = 3) then
-    AnswerTransferCases(ParamStr(2), ParamStr(3), True)
+    AnswerCases(ParamStr(2), ParamStr(3), @TransferNext, @TransferMarks)
   else
     WrongUse;
 end;

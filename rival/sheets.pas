@@ -8,10 +8,6 @@ interface
 
 const
   HeaderWidth = 14;
-  ProducerWidth = 42; { without the hours }
-  HourWidth = 12;     { three powers of four bytes; 24 of them make 288 a day }
-  RowWidth = 10;
-  ConsumerWidth = 15;
 
   MostProducers = 6;
   MostRows = 32;
@@ -19,8 +15,6 @@ const
   MostDays = 31;
   HoursInDay = 24;
   MostHours = HoursInDay * MostDays;
-
-  SingleBuyer = 255; { the consumer number of a support row }
 
 type
   TByteSequence = array of Byte;
@@ -56,7 +50,7 @@ type
 
   TRow = record
     Producer: Byte;
-    Consumer: Byte;   { or SingleBuyer }
+    Consumer: Byte;   { or the single buyer }
     Volume: LongWord; { tenths of a megawatt }
     Price: LongWord;  { tiyn per megawatt and month }
   end;
@@ -90,7 +84,6 @@ function IsSupportRow(const Row: TRow): Boolean;
 
 { The readers take a field, highest byte first, and move the place on. }
 function NextOne(const Bytes: TByteSequence; var Place: Integer): Byte;
-function NextTwo(const Bytes: TByteSequence; var Place: Integer): Word;
 function NextFour(const Bytes: TByteSequence; var Place: Integer): LongWord;
 
 { With fewer than 14 bytes there is no header, and all its fields are 0. }
@@ -102,6 +95,14 @@ procedure ReadHeader(const Bytes: TByteSequence; out Header: THeader);
 procedure ReadBody(const Bytes: TByteSequence; var Sheet: TSheet);
 
 implementation
+
+const
+  ProducerWidth = 42; { without the hours }
+  HourWidth = 12;     { three powers of four bytes; 24 of them make 288 a day }
+  RowWidth = 10;
+  ConsumerWidth = 15;
+
+  SingleBuyer = 255; { the consumer number of a support row }
 
 function HoursInMonth(const Header: THeader): Int64;
 begin

@@ -41,11 +41,10 @@ var
   Number: Integer;
 begin
   for Fault := Low(TListFault) to High(TListFault) do
-    if Fault in Faults then
-      AddMark(Line, '13' + ListFaultNames[Fault]);
+    if Faults = [Fault] then AddMark(Line, '13' + ListFaultNames[Fault]);
   for Number := 0 to High(List.Entries) do
-    if FiledLate(List.Entries[Number]) then
-      AddMark(Line, '13behind14');
+    if FiledLate(List.Entries[Number]) and (List.Entries[Number].Day <= MostDays) then
+      AddMark(Line, '13with14');
 end;
 
 procedure AddMarksOf14(var Line: string; const List: TTransferList);
@@ -60,12 +59,11 @@ var
   Fault: TTurnFault;
 begin
   for Fault := Low(TTurnFault) to High(TTurnFault) do
-    if Fault in Outcome.TurnFaults then
-      AddMark(Line, '15' + TurnFaultNames[Fault]);
-  if FaultsAtTurn(Failing, Before) = [] then AddMark(Line, '15late');
+    if Outcome.TurnFaults = [Fault] then AddMark(Line, '15' + TurnFaultNames[Fault]);
+  if FaultsAtTurn(Failing, Before) = [] then AddMark(Line, '15turn');
   if Outcome.Applied = 0 then AddMark(Line, '15first');
   if TakerAfter(Failing, Outcome.Volumes) = TopCapacity + 1 then
-    AddMark(Line, '15hundredthousandandone');
+    AddMark(Line, '15oneabove');
 end;
 
 { ---------------------------------------------------------------- done }
@@ -92,7 +90,7 @@ begin
     begin
       ApplyEntry(List.Entries[Number], Volumes);
       if Amount = 0 then AddMark(Line, 'amount0');
-      if Volumes[Taker] = TopCapacity then AddMark(Line, 'takerfull');
+      if (Amount > 0) and (Volumes[Taker] = TopCapacity) then AddMark(Line, 'takerfull');
       if (Amount > 0) and (Volumes[Giver] = 0) then AddMark(Line, 'giverempty');
       if Amount > Before[Giver] then AddMark(Line, 'chain');
     end;

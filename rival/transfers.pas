@@ -13,6 +13,9 @@ interface
 uses
   sheets;
 
+const
+  ListNumbers = [13..15]; { the refusals of a list }
+
 type
   TEntry = record
     Day: Byte;        { of filing, in the month before }
@@ -39,7 +42,7 @@ type
   TVolumes = array[0..MostConsumers - 1] of Int64; { contract volumes, tenths }
 
   TTransferOutcome = record
-    Refusal: Integer;        { 13 to 15, or NotRefused }
+    Refusal: Integer;        { one of ListNumbers, or NotRefused }
     ListFaults: TListFaults; { the grounds of 13 }
     Applied: Integer;        { entries applied; with 15 the number of the one that fails }
     TurnFaults: TTurnFaults; { the grounds of 15 }
@@ -133,13 +136,11 @@ begin
   if Entry.Giver = Entry.Taker then Include(Result, faultSame);
 end;
 
-{ The paper asks for 5 plus a multiple of 7 of the length field. The bytes may be
-  asked instead: where the two differ, the list is refused by 13 all the same. }
 function FaultsOfFront(const List: TTransferList): TListFaults;
 begin
   Result := [];
   if List.LengthField <> List.BytesHandedOver then Include(Result, faultLength);
-  if (List.BytesHandedOver - ListFrontWidth) mod EntryWidth <> 0 then
+  if (Int64(List.LengthField) - ListFrontWidth) mod EntryWidth <> 0 then
     Include(Result, faultMultiple);
   if List.Version <> ListVersion then Include(Result, faultVersion);
 end;
