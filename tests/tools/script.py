@@ -87,7 +87,7 @@ class House:
     def fails(self, name, said, words=(), commands=None):
         """Settles nothing, says why, and leaves target/ as it was."""
         before = files_in(self.root / "target")
-        done = run(self.root / "settle", *words, stdin=EXAM, path=commands or self.bin)
+        done = run("./settle", *words, stdin=EXAM, folder=self.root, path=commands or self.bin)
         check(done.returncode == 2 and not done.stdout, f"settle: {name}: status", words_of(done))
         check(said in done.stderr.decode(), f"settle: {name}: message", words_of(done))
         after = files_in(self.root / "target")
