@@ -2,7 +2,7 @@
 rival."""
 import random
 import struct
-from pathlib import Path
+from typing import NamedTuple
 
 import inputs
 import names
@@ -10,7 +10,7 @@ import programs
 import records
 import refusals
 import transfers
-from checks import EXAMPLES, check, run, sheet, turned_down, words_of
+from checks import EXAMPLES, check, sheet, turned_down, words_of
 from texts import changed
 from transfers import GivenList, Transfer
 
@@ -349,29 +349,28 @@ def drawn_list(rng, volumes):
                        struct.pack(">I", len(content) + 7) + content[4:]))
 
 
+class Case(NamedTuple):
+    sheet: bytes
+    list: bytes
+
+    def to_bytes(self):
+        return programs.list_case_bytes(self.sheet, self.list)
+
+
 def draw():
-    """Sheets and lists with the rival's answers: the sheet afterwards, or a number."""
+    """Sheets, each with a list."""
     rng, cases = random.Random(SEED), []
     for _ in range(DRAWN):
         content = drawn_sheet(rng)
         volumes = [consumer.contract for consumer in records.Sheet.from_bytes(content).consumers]
-        cases.append((content, drawn_list(rng, volumes)))
+        cases.append(Case(content, drawn_list(rng, volumes)))
     return cases
 
 
-def rival_answers(cases, folder):
-    asked, answered = Path(folder) / "cases", Path(folder) / "answers"
-    asked.write_bytes(b"".join(struct.pack(">2I", len(content), len(packed)) + content + packed
-                               for content, packed in cases))
-    done = run(programs.RIVAL, "transfers", asked, answered)
-    check(done.returncode == 0, "the rival's transfers", words_of(done))
-    return programs.read_answers(answered, len(cases))
-
-
-def first_of(content, packed):
+def first_of(case):
     """The first refusal that the aid finds, and the contract volumes after the list."""
-    given = inputs.Given("sheet", content, names.NO_NAMES, "", [], False)
-    found, volumes = transfers.judged(given, [GivenList("list", packed, False)])
+    given = inputs.Given("sheet", case.sheet, names.NO_NAMES, "", [], False)
+    found, volumes = transfers.judged(given, [GivenList("list", case.list, False)])
     return found[0] if found else None, volumes
 
 
@@ -379,19 +378,19 @@ def test_drawn(folder):
     """explain has the rival's number, and the volumes after an applied list; every list that can be unpacked comes
     back from its text."""
     cases, found = draw(), {}
-    answers = rival_answers(cases, folder)
-    for place, ((content, packed), answer) in enumerate(zip(cases, answers)):
-        first, volumes = first_of(content, packed)
+    answers = programs.rival_answers(cases, folder, "transfers")
+    for place, (case, answer) in enumerate(zip(cases, answers)):
+        first, volumes = first_of(case)
         number, rival = first.number if first else 0, answer if isinstance(answer, int) else 0
         found[rival] = found.get(rival, 0) + 1
         check(number == rival, f"explain: drawn list {place}: {number}, the rival has {rival} (0: applied)")
         if not rival:
             after = [consumer.contract for consumer in records.Sheet.from_bytes(answer).consumers]
             check(volumes == after, f"show: drawn list {place}: the volumes after it")
-        if transfers.entries_known(packed) and packed[4] == transfers.VERSION:
+        if transfers.entries_known(case.list) and case.list[4] == transfers.VERSION:
             text = folder / "list.csv"
-            text.write_bytes(transfers.text_files("list", packed, str(text))[str(text)])
-            check(transfers.read_text(text) == packed, f"pack after unpack: drawn list {place}")
+            text.write_bytes(transfers.text_files("list", case.list, str(text))[str(text)])
+            check(transfers.read_text(text) == case.list, f"pack after unpack: drawn list {place}")
         else:
             check(rival, f"unpack: drawn list {place}: turned down, though the rival applies it")
     check(set(found) == {0, 2, 9, *refusals.TRIED_IN_LIST} and min(found.values()) >= 10,
@@ -402,21 +401,21 @@ def test_drawn(folder):
 def check_places(cases, answers, folder):
     """The field that explain names is the one: when it is repaired, what is named next stands behind it."""
     repaired = []
-    for (content, packed), answer in zip(cases, answers):
-        if answer not in refusals.TRIED_IN_LIST or not transfers.entries_known(packed) or content[13] < 2:
+    for case, answer in zip(cases, answers):
+        if answer not in refusals.TRIED_IN_LIST or not transfers.entries_known(case.list) or case.sheet[13] < 2:
             continue
-        packed, last = bytearray(packed), (0, 0)
+        packed, last = bytearray(case.list), (0, 0)
         packed[4] = transfers.VERSION
-        while (first := first_of(content, bytes(packed))[0]) is not None:
+        while (first := first_of(case._replace(list=bytes(packed)))[0]) is not None:
             turn = refusals.turn(first.number), first.place
             check(turn > last, f"explain: byte {first.place} after {last}")
             if turn <= last:
                 break
             last = turn
             repair(packed, first)
-        repaired.append((content, bytes(packed)))
+        repaired.append(case._replace(list=bytes(packed)))
     check(len(repaired) >= 50, f"explain: only {len(repaired)} lists were repaired")
-    for answer in rival_answers(repaired, folder):
+    for answer in programs.rival_answers(repaired, folder, "transfers"):
         check(isinstance(answer, bytes), f"explain: a repaired list, but the rival refuses it by {answer}")
 
 

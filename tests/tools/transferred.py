@@ -2,9 +2,7 @@
 import csv
 import io
 import json
-import struct
 import tempfile
-from itertools import accumulate, pairwise
 
 import programs
 import records
@@ -13,6 +11,7 @@ from checks import EXAMPLES, TRANSFER_PROGRAM, check, files_in, report, run, tur
 from transfers import Transfer
 
 STORED = EXAMPLES.parent / "crates" / "vectors" / "data" / "transfers"
+STORED_LISTS = 21    # docs/EVIDENCE.md
 MONTHS = EXAMPLES / "month.toml", EXAMPLES / "month.sheet"
 CHANGED = (EXAMPLES / "month-transferred.sheet").read_bytes()
 LISTING = (EXAMPLES / "month-transferred.listing").read_text()
@@ -43,22 +42,14 @@ def written(packed, content):
     return run("sh", "-c", 'exec "$0" 3<"$1"', TRANSFER_PROGRAM, packed, stdin=content).stdout
 
 
-def stored_lists():
-    """Each stored sheet with its list, and what the rival answered: the sheet afterwards, or the line of a refusal."""
-    content, place = STORED.read_bytes(), 0
-    while place < len(content):
-        sheet, listed, refused, number = struct.unpack_from(">IIBI", content, place)
-        ends = list(accumulate((place + 13, sheet, listed, sheet)))
-        parts = [content[start:end] for start, end in pairwise(ends)]
-        yield parts[0], parts[1], f"N{number}\n".encode() if refused else parts[2]
-        place = ends[-1]
-
-
 def test_stored(folder):
     """The program that applies lists, alone, on the stored cases."""
-    for count, (sheet, packed, answer) in enumerate(stored_lists()):
+    stored = list(programs.stored_lists(STORED.read_bytes()))
+    check(len(stored) == STORED_LISTS, f"transfer_sheet: {len(stored)} stored lists")
+    for count, (sheet, packed, answer) in enumerate(stored):
         (folder / "list").write_bytes(packed)
-        check(written(folder / "list", sheet) == answer, f"transfer_sheet: stored list {count}")
+        wanted = b"N%d\n" % answer if isinstance(answer, int) else answer
+        check(written(folder / "list", sheet) == wanted, f"transfer_sheet: stored list {count}")
 
 
 def test_program():
