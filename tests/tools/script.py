@@ -5,7 +5,7 @@ import subprocess
 import time
 from hashlib import sha256
 
-from checks import EXAMPLES, PROGRAM, ROOT, TRANSFER_PROGRAM, check, files_in, report, run, sheet, words_of
+from checks import EXAMPLES, PROGRAM, ROOT, TRANSFER_PROGRAM, check, files_in, run, sheet, words_of
 from texts import GOOD, changed
 
 TOOLS_USED = ("sh", "dirname", "readlink", "find", "cat", "mkdir", "mv", "rm", "cp", "mktemp", "chmod", "awk", "sleep",
@@ -35,6 +35,8 @@ other: rules
 settle: rules laws io libc
 transfer_sheet: rules laws other io libc
 """
+# The way back from what the list of the examples does to its month.
+BACK = "day,giver,taker,amount\n1,19,8,5.5\n1,10,29,16.0\n1,29,31,20.0\n"
 EXAM = (EXAMPLES / "exam-126.sheet").read_bytes()
 LISTINGS = {path.stem: path.with_suffix(".listing").read_bytes() for path in EXAMPLES.glob("*.sheet")}
 
@@ -317,11 +319,7 @@ def test_transfers(folder):
         check(done.returncode == 0 and done.stdout == wanted and not done.stderr, f"settle {words}", words_of(done))
     done = house.settle("--transfers", "/dev/stdin", month, stdin=(EXAMPLES / "transfers.list").read_bytes())
     check(done.stdout == wanted and not done.stderr, "settle --transfers: a list from a pipe", words_of(done))
-    twice = report("--transfers", EXAMPLES / "transfers.list", "--transfers", EXAMPLES / "transfers.csv", month).stdout
-    for lists in (("transfers.list", "transfers.list"), ("transfers.csv", "transfers.list")):
-        words = [word for name in lists for word in ("--transfers", name)]
-        done = house.settle(*words, "month.sheet", folder=EXAMPLES)
-        check(done.stdout == twice and twice not in (wanted, LISTINGS["month"]), f"settle {words}", words_of(done))
+    check_order(house, folder)
     for name in ("refused-13", "refused-14", "refused-15"):
         listing = (EXAMPLES / f"{name}.listing").read_bytes()
         for words, status in (([], 0), (["--strict"], 1), (["--transfers", f"examples/{name}.csv"], 0)):
@@ -354,6 +352,19 @@ def test_transfers(folder):
             done = house.settle("--transfers", "examples/refused-15.list", f"examples/{name}.sheet")
             check(done.stdout == listing and not done.stderr, f"settle --transfers: {name}", words_of(done))
     check_wrong_lists(house, month)
+
+
+def check_order(house, folder):
+    """Several lists are applied in the order given: there and back is the month again, back before there is refused."""
+    (folder / "back.csv").write_text(BACK)
+    sheet("pack", "back.csv", "back.list", folder=folder)
+    for suffix in ("list", "csv"):
+        there, back = EXAMPLES / f"transfers.{suffix}", folder / f"back.{suffix}"
+        for lists, wanted in (((there, back), LISTINGS["month"]), ((back, there), b"N15\n")):
+            words = [word for each in lists for word in ("--transfers", each)]
+            done = house.settle(*words, EXAMPLES / "month.sheet")
+            check(done.returncode == 0 and done.stdout == wanted and not done.stderr,
+                  f"settle --transfers: {lists[0].name}, then {lists[1].name}", words_of(done))
 
 
 def check_wrong_lists(house, month):
