@@ -13,7 +13,7 @@ TOOLS_USED = ("sh", "dirname", "readlink", "find", "cat", "mkdir", "mv", "rm", "
 STAND_IN = """\
 #!/bin/sh
 # rt in the tests: eats its standard input, counts its checks, and puts the program of a crate into place.
-case $1 in version) cat "$0.version"; exit 0 ;; esac
+case $1 in version) cat "$0.version"; exit ;; esac
 cat >/dev/null
 echo "$*" >>"$0.log"
 [ ! -f "$0.slow" ] || sleep 1
@@ -122,6 +122,9 @@ def test_building(folder):
     house.settles("a source taken away", 1, b"up to date")
     (house.root / "crates.txt").write_text("rules: \n")
     house.settles("crates.txt", 1, b"up to date\nrt: rules proved (3 s)\n")
+    house.beside_rt("version").unlink()
+    house.fails("an rt that fails", "rt.version: No such file or directory\nsettle: rt is on the PATH, but fails: "
+                "'rt version' ended with status 1\n")
     house.beside_rt("version").write_text("kit 2\n")
     house.settles("another version of rt", 1, b"up to date")
     (house.root / "target" / "bin" / "settle").unlink()
@@ -443,6 +446,8 @@ def test_version(folder):
           str(found))
     (house.source / "lib.rt").unlink()
     check(lines()["sources"] == "unknown: one of them cannot be read", "settle --version: a source is missing")
+    house.beside_rt("version").unlink()
+    check(lines()["kit"] == "unknown: 'rt version' ended with status 1", "settle --version: an rt that fails")
     check(house.checks() == 0 and not (house.root / "target/bin").exists(), "settle --version builds nothing")
 
 
