@@ -166,7 +166,8 @@ def test_result_bytes(folder):
     done = report("--result", "old.bin", "--force", EXAMPLES / "refused-9.toml", folder=folder)
     check((done.returncode, done.stdout) == (1, b"N9\n") and files_in(folder) == before, "--result: refused",
           words_of(done))
-    check(b"settle: old.bin: is not written, since " in done.stderr, "--result: refused, the message", words_of(done))
+    check(done.stderr.decode() == f"settle: old.bin: is not written, since {EXAMPLES / 'refused-9.toml'} is refused by "
+          "9\n", "--result: refused, the message", words_of(done))
 
 
 def test_statuses(folder):
@@ -203,7 +204,8 @@ def test_other_programs(folder):
                     "is no listing of this sheet", status=2, command=report, program=program)
     (folder / "program.says").write_text("N20\\n")
     month, = json.loads(form("json", "small.sheet", program=program, folder=EXAMPLES))
-    wanted = {"number": 20, "words": "a rule that tools/refusals.py does not know", "byte": None, "field": None}
+    wanted = {"number": 20, "list": None, "words": "a rule that tools/refusals.py does not know", "byte": None,
+              "field": None}
     check(month["refusal"] == wanted, "a number that the tools do not know", str(month))
     done = report("--explain", "small.sheet", program=program, folder=EXAMPLES)
     check(b"has another answer; the program's holds" in done.stderr, "--explain: another answer", words_of(done))
