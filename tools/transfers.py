@@ -189,15 +189,25 @@ def contract_volumes(given):
     return [consumer.contract for consumer in Sheet.from_bytes(given.content[:HANDED_OVER]).consumers]
 
 
+def sheet_after(given, volumes):
+    """The sheet of such a month, with these contract volumes."""
+    sheet = Sheet.from_bytes(given.content[:HANDED_OVER])
+    for consumer, volume in zip(sheet.consumers, volumes):
+        consumer.contract = volume
+    return sheet
+
+
 def judged(given, lists):
     """Every field that breaks a rule, of the sheet and then of each list, applied in order; and the contract volumes
-    after the lists. Where the places of the sheet's records cannot be told, the lists are left out."""
-    found, volumes = all_refusals(given.content), []
-    if places_known(found):
-        volumes = contract_volumes(given)
-        for each in lists:
-            found += list_refusals(each, volumes, given.names)
-    return found, volumes
+    after the lists, or the month's own if there is a refusal. Where the places of the sheet's records cannot be told,
+    the lists are left out."""
+    found = all_refusals(given.content)
+    if not places_known(found):
+        return found, []
+    before, after = contract_volumes(given), contract_volumes(given)
+    for each in lists:
+        found += list_refusals(each, after, given.names)
+    return found, before if found else after
 
 
 def first_refusal(given, lists):
@@ -205,11 +215,16 @@ def first_refusal(given, lists):
     return next(iter(judged(given, lists)[0]), None)
 
 
-def unlikely_entries(given):
-    """What a list may have, but hardly ever has."""
-    for number, transfer in enumerate(known_transfers(given.content)):
-        if transfer.amount == 0:
-            yield f"{given.name}: entry {number}: amount is 0"
+def unlikely_lists(lists):
+    """What lists may have, but hardly ever have."""
+    for given in lists:
+        for number, transfer in enumerate(known_transfers(given.content)):
+            if transfer.amount == 0:
+                yield f"{given.name}: entry {number}: amount is 0"
+    for content, count in Counter(given.content for given in lists).items():
+        if count > 1 and transfers_of(content):
+            alike = ", ".join(given.name for given in lists if given.content == content)
+            yield f"the same list is given {count} times: {alike}"
 
 
 # ------------------------------------------------------------------ tables
@@ -217,18 +232,16 @@ def unlikely_entries(given):
 
 def list_lines(content, names=NO_NAMES):
     """A list as far as it can be read, whether it would be refused or not."""
+    faults = [f"refusal 13, byte {place}: {words}" for place, words in front_faults(content)]
     if len(content) < FRONT:
-        return [f"The list ends after {len(content)} bytes, before its first entry."]
+        return faults
     lines = [f"{field.words:20}{figure}" for field, figure in zip(FRONT_FIELDS, FRONT_PACKING.unpack_from(content))]
     cells = [entry_cells(number, transfer, names) for number, transfer in enumerate(transfers_of(content))]
     if cells:
         left = (2, 3) if names.consumer else ()
         lines += ["", "Entries, in the order in which they are applied; amounts in MW",
                   *table_lines(ENTRY_HEADS, cells, left)]
-    rest = (len(content) - FRONT) % ENTRY
-    if rest:
-        lines += ["", f"The list ends after {len(content)} bytes, inside entry {len(cells)}."]
-    return lines
+    return [*lines, "", *faults] if faults else lines
 
 
 def entry_cells(number, transfer, names):

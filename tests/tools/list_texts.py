@@ -224,12 +224,17 @@ def test_shown(folder):
     for name in ("list.csv", "a.list"):
         done = sheet("show", name, folder=folder)
         check(done.stdout.decode() == SHOWN and not done.stderr, f"show: {name}", words_of(done))
-    for content, line in ((b"\0\0\0\0", "The list ends after 4 bytes, before its first entry."),
-                          (GOOD_BYTES[:-1], "The list ends after 18 bytes, inside entry 1."),
-                          (GOOD_BYTES + b"\0", "The list ends after 20 bytes, inside entry 2.")):
-        (folder / "cut.list").write_bytes(content)
-        done = sheet("show", "cut.list", folder=folder)
-        check(done.returncode == 0 and done.stdout.decode().splitlines()[-1] == line, f"show: {line}", words_of(done))
+    for content, words in NO_LIST:
+        (folder / "bad.list").write_bytes(content)
+        done = sheet("show", "bad.list", folder=folder)
+        check(done.returncode == 0 and done.stdout.decode().splitlines()[-1] == f"refusal 13, {words}",
+              f"show: {words}", words_of(done))
+    (folder / "bad.list").write_bytes(GOOD_BYTES[:3] + b"\x14\2" + GOOD_BYTES[5:])
+    done = sheet("show", "bad.list", folder=folder)
+    wanted = changed(SHOWN, [("length              19", "length              20"),
+                             ("version             1", "version             2")])
+    check(done.stdout.decode() == f"{wanted}\nrefusal 13, byte 0: length, 20, but there are 19 bytes\n"
+          "refusal 13, byte 4: version, 2 (not 1)\n", "show: a wrong length and version", words_of(done))
     done = sheet("show", "--transfers", "named.csv", SMALL, folder=folder)
     check(done.returncode == 0 and done.stdout.decode() == SHOWN_NAMED, "show --transfers: a text", words_of(done))
     content = SMALL.with_suffix(".sheet").read_bytes()
@@ -303,6 +308,14 @@ def test_check(folder):
     done = sheet("check", "--transfers", "all.csv", EXAMPLES / "month.sheet", folder=folder)
     check(done.returncode == 0 and b"  consumer 31: no row names it, and its peak is far above its contract volume: "
           b"51.3 MW and 0.0 MW\n" in done.stdout, "check --transfers: unlikely after the list", words_of(done))
+    (folder / "late.csv").write_text("day,giver,taker,amount\n21,0,1,1.0\n")
+    for words in (["--transfers", "all.csv", "--transfers", "late.csv"], ["--transfers", "late.csv"]):
+        done = sheet("check", *words, EXAMPLES / "month.sheet", folder=folder)
+        refused = f"refusal 14: {refusals.RULES[14]}\n  late.csv, line 2: entry 0, day filed, 21 (at most 20)"
+        wanted = changed(sheet("check", EXAMPLES / "month.sheet").stdout.decode(), [("accepted", refused)])
+        check(done.returncode == 1 and done.stdout.decode() == wanted,
+              f"check {words}: after a refusal, what is unlikely in the month as it stands", words_of(done))
+    check_twice(folder)
     (folder / "bad.list").write_bytes(GOOD_BYTES[:-1])
     done = sheet("check", "--transfers", "good.csv", "--transfers", "bad.list", EXAMPLES / "refused-10.sheet",
                  folder=folder)
@@ -313,6 +326,27 @@ def test_check(folder):
     done = sheet("check", "--transfers", "good.csv", EXAMPLES / "refused-2.sheet", folder=folder)
     check(done.returncode == 1 and done.stdout.endswith(b"nothing after the header was looked at, and no list\n"),
           "check --transfers: no places", words_of(done))
+
+
+def check_twice(folder):
+    """The same list twice is unlikely, under one name or two, applied or refused; two lists without entries are not."""
+    (folder / "one.csv").write_text("day,giver,taker,amount\n1,0,1,60.0\n")
+    (folder / "half.csv").write_text("day,giver,taker,amount\n1,0,1,20.0\n")
+    for name in ("none.csv", "no.csv"):
+        (folder / name).write_text("day,giver,taker,amount\n")
+    sheet("pack", "half.csv", "half.list", folder=folder)
+    for names_given, status, line in (
+        (["half.csv", "half.list"], 0, "  the same list is given 2 times: half.csv, half.list\n"),
+        (["half.csv", "none.csv", "half.csv", "half.csv"], 0,
+         "  the same list is given 3 times: half.csv, half.csv, half.csv\n"),
+        (["one.csv", "one.csv"], 1, "  the same list is given 2 times: one.csv, one.csv\n"),
+        (["half.csv", "none.csv", "no.csv"], 0, ""),
+    ):
+        words = [word for name in names_given for word in ("--transfers", name)]
+        done = sheet("check", *words, SMALL, folder=folder)
+        said = done.stdout.decode()
+        check(done.returncode == status and said.endswith(line) and said.count("the same list") == bool(line),
+              f"check: {names_given}", words_of(done))
 
 
 # ------------------------------------------------------------------ drawn lists
