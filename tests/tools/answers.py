@@ -154,9 +154,10 @@ def test_result_bytes(folder):
         check((folder / f"{name}.bin").read_bytes().hex() == printed.split()[2], f"--result: {name}: the bytes")
     (folder / "old.bin").write_bytes(b"old")
     (folder / "month.sheet").write_bytes((EXAMPLES / "small.sheet").read_bytes())
+    (folder / "link").symlink_to("month.sheet")
     for words, message in (
         (["old.bin", "month.sheet"], "settle: old.bin: exists; --force writes over it"),
-        (["month.sheet", "--force", "month.sheet"], "settle: month.sheet: is read here"),
+        (["link", "--force", "month.sheet"], "settle: link: is read here"),
         (["no/new.bin", "month.sheet"], "settle: no/new.bin: cannot be written: No such file"),
         ([".", "month.sheet"], "settle: .: is a folder"),
         (["new.bin", "month.sheet", "month.sheet"], "settle: --result takes the result of one month"),

@@ -29,13 +29,16 @@ SAME = {
 
 # A change of the good text, and words of the message.
 BAD = [
-    ("day,", "days,", "line 1: is not day,giver,taker,amount"),
-    (GOOD, "", "line 1: is not day,giver,taker,amount"),
-    (",", ";", "line 1: is not day,giver,taker,amount"),
-    ("1,0,1,10.0\n", "\n", "line 2: has not 4 figures with commas between them"),
+    ("day,", "days,", 'line 1: is "days,giver,taker,amount", not day,giver,taker,amount'),
+    (GOOD, "", "line 1: is empty, not day,giver,taker,amount"),
+    (GOOD, " \r\n", "line 1: is empty, not day,giver,taker,amount"),
+    (",", ";", 'line 1: is "day;giver;taker;amount", not day,giver,taker,amount'),
+    ("day,giver,taker,amount\n", "", 'line 1: is "1,0,1,10.0", not day,giver,taker,amount'),
+    ("1,0,1,10.0\n", "\n", "line 2: is empty"),
+    ("1,0,1,10.0\n", " \r\n", "line 2: is empty"),
     ("20,1,2,10.5", "20,1,2,10,5", "line 3: has not 4 figures with commas between them"),
     ("20,1,2,10.5", "20,1,2", "line 3: has not 4 figures with commas between them"),
-    ("20,1,2,10.5\n", "20,1,2,10.5\n\n", "line 4: has not 4 figures with commas between them"),
+    ("20,1,2,10.5\n", "20,1,2,10.5\n\n", "line 4: is empty"),
     ("10.5", "10.55", 'line 3: amount: "10.55" has more than one decimal'),
     ("10.5", "-1", 'line 3: amount: "-1" is negative'),
     ("10.5", "429496729.6", 'line 3: amount: "429496729.6" does not fit its field, which holds at most 429496729.5'),
@@ -47,7 +50,21 @@ BAD = [
     ("20,1", "x,1", 'line 3: day: "x" is not a number written plainly, as 100'),
     ("1,0,1", "1,-1,1", 'line 2: giver: "-1" is negative'),
     ("1,0,1", "1,0,256", 'line 2: taker: "256" does not fit its field, which holds at most 255'),
-    ("1,0,1", "1,0,Rolling mill", 'line 2: taker: "Rolling mill" is not a number written plainly, as 100'),
+    ("1,0,1", "1,0,Rolling mill",
+     'line 2: taker: "Rolling mill" is not the number of a consumer, from 0 in the order of the month'),
+    ("1,0,1", "1,,1", 'line 2: giver: "" is not the number of a consumer, from 0 in the order of the month'),
+]
+
+# Faults of a list's text, more than one in a line and more lines than are told of a CSV file of hours.
+FAULTY = "day,giver,taker,amount\nx,0,mill,1.05\n\n1,0\n1,0,1,y\n256,0,1,1\n"
+ALL_FAULTS = [
+    'line 2: day: "x" is not a number written plainly, as 100',
+    'line 2: taker: "mill" is not the number of a consumer, from 0 in the order of the month',
+    'line 2: amount: "1.05" has more than one decimal',
+    "line 3: is empty",
+    "line 4: has not 4 figures with commas between them",
+    'line 5: amount: "y" is not a number written plainly, as 100.0',
+    'line 6: day: "256" does not fit its field, which holds at most 255',
 ]
 
 # Bytes that are no list, and why they cannot be unpacked.
@@ -169,10 +186,8 @@ def test_bad(folder):
     (folder / "list.csv").write_bytes(GOOD.encode().replace(b"10.5", b"10\xff"))
     turned_down("pack", folder, ["pack", "list.csv", "out.list"], "list.csv, line 3: is not text in UTF-8")
     (folder / "list.csv").write_text(changed(GOOD, [("\n1,", "\nx,"), ("\n20,", "\ny,")]))
-    turned_down("pack", folder, ["pack", "list.csv", "out.list"], "(and 1 more; tools/sheet check lists them all)")
-    done = sheet("check", "--transfers", "list.csv", SMALL, folder=folder)
-    check(done.returncode == 1 and done.stderr.count(b"tools/sheet: list.csv, line ") == 2, "check: a bad list's text",
-          words_of(done))
+    turned_down("pack", folder, ["pack", "list.csv", "out.list"],
+                "(and 1 more; tools/sheet check --transfers LIST MONTH lists them all)")
     for content, message in NO_LIST:
         (folder / "bad.list").write_bytes(content)
         turned_down("unpack", folder, ["unpack", "bad.list", "new.csv"],
@@ -183,14 +198,33 @@ def test_bad(folder):
         (["unpack", "kept.list", "new.toml"], "new.toml: is to be the text of a list, whose name ends in .csv"),
         (["unpack", "kept.list", "list.csv"], "list.csv: exists; --force writes over it"),
         (["explain", "--transfers", "none.list", SMALL], "none.list: cannot be read: No such file"),
-        (["check", "kept.list"], "kept.list: is a list by its name; give it with its month, as --transfers LIST MONTH"),
-        (["explain", "list.csv"], "list.csv: is a list by its name"),
-        (["show", "--transfers", "kept.list", "kept.list"], "kept.list: is a list by its name"),
     ):
         turned_down(" ".join(map(str, words)), folder, words, message)
     (folder / "list.csv").write_text(GOOD)
+    (folder / "link").symlink_to("list.csv")
     turned_down("pack", folder, ["pack", "list.csv", "kept.list"], "kept.list: exists; --force writes over it")
-    turned_down("pack", folder, ["pack", "list.csv", "list.csv", "--force"], "list.csv: is read here")
+    turned_down("pack", folder, ["pack", "list.csv", "link", "--force"], "link: is read here")
+
+
+def test_faults(folder):
+    """check names every fault of every list's text, beside those of a month's; other commands name the first."""
+    (folder / "a.csv").write_text(FAULTY)
+    (folder / "b.CSV").write_text(FAULTY)
+    (folder / "month.toml").write_text(changed(SMALL.read_text(), [('"110.0"', '"x"'), ("month = 12", "month = 13")]))
+    month = ["month: 13 is not a whole number from 1 to 12",
+             'producer 0: attested_capacity: "x" is not a number written plainly, as 100.0',
+             'producer 0: hours: possible: "x" is not a number written plainly, as 100.0']
+    words = ["--transfers", "a.csv", "--transfers", "none.list", "--transfers", "b.CSV", "month.toml"]
+    wanted = [*(f"month.toml: {fault}" for fault in month), *(f"a.csv, {fault}" for fault in ALL_FAULTS),
+              "none.list: cannot be read: No such file or directory", *(f"b.CSV, {fault}" for fault in ALL_FAULTS)]
+    done = sheet("check", *words, folder=folder)
+    check(done.returncode == 1 and not done.stdout
+          and done.stderr.decode().splitlines() == [f"tools/sheet: {line}" for line in wanted],
+          "check: all faults of a month and its lists", words_of(done))
+    for command in ("explain", "show"):
+        turned_down(command, folder, [command, *words], f"tools/sheet: {wanted[0]} (and {len(wanted) - 1} more; "
+                    "tools/sheet check --transfers LIST MONTH lists them all)")
+    turned_down("explain", folder, ["explain", "month.toml"], "(and 2 more; tools/sheet check lists them all)")
 
 
 def test_long(folder):
@@ -253,6 +287,24 @@ def test_shown(folder):
     (folder / "empty.list").write_bytes(transfers.list_bytes([]))
     done = sheet("show", "--transfers", "empty.list", "-", folder=folder, stdin=nobody)
     check(done.stdout.endswith(b"\n     all     0.0                  0.0\n"), "show --transfers: no consumer",
+          words_of(done))
+
+
+def test_other_name(folder):
+    """A list's text whose name does not say so."""
+    hint = "begins as a list's text does, whose name ends in .csv"
+    for content in (GOOD, f"\ufeff{GOOD}", GOOD.replace(",", ";")):
+        (folder / "list.txt").write_text(content)
+        length, count = int.from_bytes(content.encode()[:4], "big"), len(content.encode())
+        line = f"list.txt, byte 0: length, {length}, but there are {count} bytes; it {hint}"
+        for command in ("explain", "check"):
+            done = sheet(command, "--transfers", "list.txt", SMALL, folder=folder)
+            check(done.stdout.decode().splitlines()[1].strip() == line, f"{command}: a list's text named list.txt",
+                  words_of(done))
+        turned_down("pack", folder, ["pack", "list.txt", "out.list"], f"tools/sheet: list.txt: {hint}")
+    (folder / "month.txt").write_text("days = 28\nweekday = 1\nholidays = []\n")
+    done = sheet("pack", "month.txt", "-", folder=folder)
+    check(done.returncode == 0 and len(done.stdout) == records.HEADER, "pack: a month's text named month.txt",
           words_of(done))
 
 

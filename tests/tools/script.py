@@ -6,7 +6,8 @@ import time
 from hashlib import sha256
 
 from checks import EXAMPLES, PROGRAM, ROOT, TRANSFER_PROGRAM, check, files_in, run, sheet, words_of
-from texts import GOOD, changed
+from texts import BACK, GOOD, changed
+from use import NOT_A_LIST, NOT_A_MONTH
 
 TOOLS_USED = ("sh", "dirname", "readlink", "find", "cat", "mkdir", "mv", "rm", "cp", "mktemp", "chmod", "awk", "sleep",
               "sort", "xargs", "sha256sum", "cut", "git", "python3", "env", "wc")
@@ -35,8 +36,6 @@ other: rules
 settle: rules laws io libc
 transfer_sheet: rules laws other io libc
 """
-# The way back from what the list of the examples does to its month.
-BACK = "day,giver,taker,amount\n1,19,8,5.5\n1,10,29,16.0\n1,29,31,20.0\n"
 EXAM = (EXAMPLES / "exam-126.sheet").read_bytes()
 LISTINGS = {path.stem: path.with_suffix(".listing").read_bytes() for path in EXAMPLES.glob("*.sheet")}
 
@@ -304,6 +303,27 @@ def test_transfers_built(folder):
     (house.source / "lib.rt").write_text("changed again")
     house.fails("a bad list is told before a program is built", 'bad.csv, line 2: amount: "1.05" has more than one '
                 "decimal", ["--transfers", bad, EXAMPLES / "month.sheet"])
+
+
+def test_kinds(folder):
+    """A list in a month's place, and a month in a list's: told in tools/report's words, without Python or a program."""
+    house = House(folder)
+    (house.bin / "python3").unlink()
+    month = "examples/month.sheet"
+    for words, said in (
+        (["examples/transfers.list"], f"examples/transfers.list: {NOT_A_MONTH}"),
+        (["examples/transfers.csv", "examples/month.toml"], f"examples/transfers.csv: {NOT_A_MONTH}"),
+        (["--table", "none.CSV"], f"none.CSV: {NOT_A_MONTH}"), (["--", "-x.List"], f"./-x.List: {NOT_A_MONTH}"),
+        (["--transfers", "examples/transfers.list", "examples/refused-13.list", month],
+         f"examples/refused-13.list: {NOT_A_MONTH}"),
+        (["--transfers", "examples/month.toml", "examples/transfers.csv"], f"examples/month.toml: {NOT_A_LIST}"),
+        ([month, "--transfers", month], f"{month}: {NOT_A_LIST}"),
+        (["--transfers=-x.TOML"], f"./-x.TOML: {NOT_A_LIST}"),
+    ):
+        done = house.settle(*words)
+        check((done.returncode, done.stdout, done.stderr.decode()) == (2, b"", f"settle: {said}\n"),
+              f"settle {words}", words_of(done))
+    check(house.checks() == 0, "settle: nothing is built for a name in the wrong place")
 
 
 def test_transfers(folder):

@@ -170,6 +170,7 @@ def test_changed_sheet(folder):
     (folder / "old").write_bytes(b"old")
     (folder / "a.list").write_bytes((EXAMPLES / "transfers.list").read_bytes())
     (folder / "month.sheet").write_bytes(MONTHS[1].read_bytes())
+    (folder / "link").symlink_to("a.list")
     for words in (["new.sheet"], ["old", "--force"], ["-x"]):
         done = report(f"--sheet={words[0]}", *words[1:], "--transfers", "a.list", "month.sheet", folder=folder)
         check(done.stdout.decode() == LISTING and (folder / words[0]).read_bytes() == CHANGED, f"--sheet {words}",
@@ -181,7 +182,7 @@ def test_changed_sheet(folder):
     for words, message in (
         (["new.sheet"], "settle: new.sheet: exists; --force writes over it"),
         (["month.sheet", "--force"], "settle: month.sheet: is read here"),
-        (["a.list", "--force"], "settle: a.list: is read here"),
+        (["link", "--force"], "settle: link: is read here"),
         (["no/new.sheet"], "settle: no/new.sheet: cannot be written: No such file"),
         (["."], "settle: .: is a folder"),
         (["one", "--result", "./one"], "settle: one: is to be the result and the sheet; give two names"),
@@ -240,7 +241,7 @@ def test_statuses(folder):
         (["none.csv"], "settle: none.csv: cannot be read: No such file"),
         (["."], "settle: .: cannot be read: Is a directory"),
         (["bad.csv"], 'settle: bad.csv, line 2: amount: "1.05" has more than one decimal (and 1 more; tools/sheet '
-                      "check lists them all)"),
+                      "check --transfers LIST MONTH lists them all)"),
         (["long.list"], "settle: long.list: has 65537 bytes, and the program takes at most 65536"),
         (["none.list", MONTHS[1]], "settle: --transfers goes with one month"),
     ):
