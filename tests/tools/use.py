@@ -11,7 +11,7 @@ import records
 import refusals
 import results
 from checks import EXAMPLES, REPORT, SHEET, check, report, run, sheet, turned_down, words_of
-from texts import CONSTANT, CSV, GOOD, changed
+from texts import BACK, CONSTANT, CSV, GOOD, changed
 
 
 def test_files(folder):
@@ -71,6 +71,7 @@ KINDS = [
       for name in ("a.sheet", "a.toml", "A.Sheet")),
     ("show --transfers a.list a.list", f"a.list: {NOT_A_MONTH}"),
     ("result a.bin --sheet a.list", f"a.list: {NOT_A_MONTH}"),
+    ("result a.bin --sheet a.sheet --transfers a.sheet", f"a.sheet: {NOT_A_LIST}"),
     ("pack a.sheet new", "a.sheet: is a sheet by its name, and pack wants a text"),
     ("pack a.list new", "a.list: is a packed list by its name, and pack wants a text"),
     ("pack a.toml new.TOML", "new.TOML: is a month's text by its name, and a sheet is to be written"),
@@ -124,8 +125,9 @@ def test_wrong_use(folder):
     for line in ("", "settle", "pack month.toml", "pack month.toml new more", "pack --forced month.toml new",
                  "pack - new", "unpack", "unpack in.sheet -", "unpack in.sheet --force", "show", "show a b",
                  "show --transfers - a", "explain", "explain a b", "explain --transfers a", "result",
-                 "result a.bin --sheet", "result a.bin b.bin", "check", "check a b", "check a --transfers", "new",
-                 "new 2021", "new 2021-12 - x", "new 2021-12 --rows", "new 2021-12 --rows -1", "new 1-1 --rows 1.0"):
+                 "result a.bin --sheet", "result a.bin b.bin", "result a.bin --transfers a.list", "check", "check a b",
+                 "check a --transfers", "new", "new 2021", "new 2021-12 - x", "new 2021-12 --rows",
+                 "new 2021-12 --rows -1", "new 1-1 --rows 1.0"):
         turned_down(f"wrong use: {line}", folder, line.split(), "usage: tools/sheet", status=2)
 
 
@@ -148,7 +150,7 @@ def test_results(folder):
         (result_bytes(0, 1, paid=1), [], "totals: paid 0.01 is not the sum of the lines, 0.00, so this is no result"),
         (result_bytes(0, 1, paid=1), ["--sheet", "zeros.sheet"], "0.00, so this is no result of zeros.sheet"),
         (result_bytes(1, 1), ["--sheet", "one.sheet"], "its length field says 62; 0 rows and 1 consumers make 46"),
-        (result_bytes(0, 1), ["--sheet", EXAMPLES / "refused-9.sheet"], "is refused by 9, so it has no result"),
+        (result_bytes(0, 1), ["--sheet", EXAMPLES / "refused-9.sheet"], "is refused by 9, so there is no result"),
         (result_bytes(0, 1), ["--sheet", "none.sheet"], "none.sheet: cannot be read"),
     ):
         turned_down("result", folder, ["result", "-", *more], message, stdin=content)
@@ -195,6 +197,35 @@ def test_impossible(folder):
     done = sheet("result", "-", stdin=content[:45] + b"\x0e" + content[46:])
     check(done.returncode == 1 and b"consumer 0: n 1.4 is not that of 1.7 percent, 0.0" in done.stderr,
           "result without a sheet: n", words_of(done))
+
+
+def test_transferred_results(folder):
+    """With lists, a result is held to the month after them, in the order given."""
+    month = EXAMPLES / "month.sheet"
+    for name in ("month", "month-transferred"):
+        listing, content = (EXAMPLES / f"{name}.listing").read_text(), (EXAMPLES / f"{name}.sheet").read_bytes()
+        (folder / f"{name}.bin").write_bytes(results.result_of_listing(listing, content))
+    (folder / "back.csv").write_text(BACK)
+
+    def held(name, *lists):
+        words = [word for each in lists for word in ("--transfers", each)]
+        return sheet("result", name, "--sheet", month, *words, folder=folder)
+    there, back = EXAMPLES / "transfers.list", "back.csv"
+    for name, lists in (("month-transferred", [there]), ("month-transferred", [there.with_suffix(".csv")]),
+                        ("month", [there, back]), ("month-transferred", [there, back, there])):
+        done = held(f"{name}.bin", *lists)
+        check(done.returncode == 0 and done.stdout == (EXAMPLES / f"{name}.listing").read_bytes(),
+              f"result --transfers: {name}, {len(lists)} lists", words_of(done))
+    for name, lists in (("month-transferred.bin", []), ("month.bin", [there])):
+        done = held(name, *lists)
+        ends = "".join(f", after {each}" for each in lists)
+        said = done.stderr.decode().splitlines()
+        check(done.returncode == 1 and {line.split(": ")[2] for line in said} == {
+            f"consumer {number}" for number in (8, 10, 19, 29, 31)} and not done.stdout
+            and all(line.endswith(f", so this is no result of {month}{ends}") for line in said),
+            f"result --transfers: {name} is another's", words_of(done))
+    turned_down("result", folder, ["result", "month.bin", "--sheet", month, "--transfers", back, "--transfers", there],
+                "tools/sheet: back.csv: is refused by 15, so there is no result")
 
 
 OLD_PYTHON = """\
