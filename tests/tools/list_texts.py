@@ -10,7 +10,7 @@ import programs
 import records
 import refusals
 import transfers
-from checks import EXAMPLES, check, sheet, turned_down, words_of
+from checks import EXAMPLES, SHEET, check, run, sheet, turned_down, words_of
 from texts import changed
 from transfers import GivenList, Transfer
 
@@ -306,6 +306,8 @@ def test_other_name(folder):
     done = sheet("pack", "month.txt", "-", folder=folder)
     check(done.returncode == 0 and len(done.stdout) == records.HEADER, "pack: a month's text named month.txt",
           words_of(done))
+    done = run(SHEET, "pack", "/dev/stdin", "-", stdin=SMALL.read_bytes())
+    check(done.stdout == SMALL.with_suffix(".sheet").read_bytes(), "pack: a month's text from a pipe", words_of(done))
 
 
 def test_explained(folder):
