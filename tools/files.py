@@ -11,6 +11,7 @@ MOST_TEXT = 16 * 2 ** 20    # bytes; the text of the largest month is a hundredt
 
 class Trouble(Exception):
     """What keeps the work from being done: the file, the line or key, and the reason; a line for each fault."""
+    lister = "tools/sheet check"     # the command that prints all lines
 
     def __init__(self, *lines):
         super().__init__(*lines)
@@ -18,7 +19,12 @@ class Trouble(Exception):
 
     def __str__(self):
         more = len(self.lines) - 1
-        return self.lines[0] + (f" (and {more} more; tools/sheet check lists them all)" if more else "")
+        return self.lines[0] + (f" (and {more} more; {self.lister} lists them all)" if more else "")
+
+
+class ListTrouble(Trouble):
+    """The same with a list of transfers, which is checked with its month."""
+    lister = "tools/sheet check --transfers LIST MONTH"
 
 
 def name_of(path):

@@ -17,11 +17,12 @@ CONSUMER_HEADS = (("consumer", ""), ("contract", "MW"), ("peak", "MW"), ("credit
                   ("actual", "MW"), ("price", "tenge/MW"), ("charge", "tenge"))
 COLUMNS = ("month", "record", "row", "producer", "producer_name", "consumer", "consumer_name", "volume",
            "contract_volume", "peak", "price", "volume_after_cut", "credit", "percent", "n", "actual_volume", "payment",
-           "charge", "refusal", "words", "byte", "field")
+           "charge", "refusal", "words", "byte", "field", "list", "transfers")
 
 
 class Refused(NamedTuple):
     number: int      # the program's
+    list: str        # the name of the list that is refused; None if the sheet is
     words: str
     byte: int        # and what follows: None where the aid in refusals.py has another answer than the program
     field: str
@@ -33,7 +34,7 @@ class Answer(NamedTuple):
     listing: str         # as the program printed it
     refused: Refused     # or None,
     result: bytes        # and then these are the result's bytes, laid out from the listing
-    lists: tuple = ()    # the names of the lists
+    lists: tuple = ()    # the names of the lists, in their order
 
 
 # ------------------------------------------------------------------ records with names and figures
@@ -118,16 +119,25 @@ def as_csv(answers):
     lines = csv.DictWriter(text, COLUMNS, lineterminator="\n")
     lines.writeheader()
     for answer in answers:
-        month, refused = in_utf8(answer.given.name), answer.refused
-        if refused:
-            lines.writerow({"month": month, "record": "refusal", "refusal": refused.number, "words": refused.words,
-                            "byte": refused.byte, "field": in_utf8(refused.field)})
-            continue
-        by_row, by_consumer, totals = records_of(answer)
-        for record, found in (("row", by_row), ("consumer", by_consumer),
-                              ("totals", [{"payment": totals["paid"], "charge": totals["charged"]}])):
-            lines.writerows({"month": month, "record": record, **each} for each in found)
+        month = {"month": in_utf8(answer.given.name), "transfers": in_utf8(" ".join(answer.lists))}
+        lines.writerows({**month, **record} for record in csv_records(answer))
     return text.getvalue()
+
+
+def csv_records(answer):
+    if answer.refused:
+        refusal = refusal_record(answer.refused)
+        yield {"record": "refusal", "refusal": refusal.pop("number"), **refusal}
+        return
+    by_row, by_consumer, totals = records_of(answer)
+    for record, found in (("row", by_row), ("consumer", by_consumer),
+                          ("totals", [{"payment": totals["paid"], "charge": totals["charged"]}])):
+        yield from ({"record": record, **each} for each in found)
+
+
+def refusal_record(refused):
+    return {"number": refused.number, "list": in_utf8(refused.list), "words": refused.words, "byte": refused.byte,
+            "field": in_utf8(refused.field)}
 
 
 def as_json(answers):
@@ -135,11 +145,9 @@ def as_json(answers):
     months = []
     for answer in answers:
         rows, consumers, totals = ([], [], None) if answer.refused else records_of(answer)
-        refused = answer.refused
-        refusal = refused and {"number": refused.number, "words": refused.words, "byte": refused.byte,
-                               "field": in_utf8(refused.field)}
-        months.append({"month": in_utf8(answer.given.name), "refusal": refusal, "rows": rows, "consumers": consumers,
-                       "totals": totals})
+        months.append({"month": in_utf8(answer.given.name), "transfers": [in_utf8(name) for name in answer.lists],
+                       "refusal": answer.refused and refusal_record(answer.refused), "rows": rows,
+                       "consumers": consumers, "totals": totals})
     return json.dumps(months, indent=1) + "\n"
 
 

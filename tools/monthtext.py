@@ -21,7 +21,7 @@ MONTH_FIELDS = [field for field in HEADER_FIELDS if field.key in ("days", "weekd
 TOP_KEYS = ("year", "month", "days", "weekday", "holidays", "producer", "row", "consumer")
 MOST_RECORDS = 255      # that a count byte holds
 LAST_HOLIDAY = 32       # the last day that the holidays' bits can name
-MOST_LINES = 3          # of a CSV file that are told as wrong one by one
+MOST_LINES = 3          # of a CSV file of hours that are told as wrong one by one
 NUMBER = re.compile(r"([0-9]+)(?:\.([0-9]+))?")
 DATE = re.compile(r"[0-9]{4}-[0-9]{2}-[0-9]{2}")
 
@@ -48,9 +48,9 @@ class Faults:
         except Trouble as trouble:
             self.lines.extend(trouble.lines)
 
-    def tell(self):
+    def tell(self, kind=Trouble):
         if self.lines:
-            raise Trouble(*self.lines)
+            raise kind(*self.lines)
 
 
 def shown(value):
@@ -325,7 +325,7 @@ def read_csv(path, hours):
     if len(lines) != hours and hours is not None:
         raise Trouble(f"{path}: has {len(lines)} lines after the head; the month has {hours} hours")
     powers = [array("I") for _ in HOUR_FIELDS]
-    for figures in csv_figures(path, lines, HOUR_FIELDS):
+    for figures in csv_figures(path, lines, HOUR_FIELDS, most=MOST_LINES):
         for series, figure in zip(powers, figures):
             series.append(figure)
     return powers
@@ -340,35 +340,39 @@ def csv_head(fields):
 
 def csv_lines(path, fields):
     """The lines of a CSV file after its head, which has the fields' keys."""
-    lines, head = read_text(path).split("\n"), csv_head(fields)
-    if lines[-1] == "":
-        lines.pop()
-    if not lines or lines[0].replace(" ", "").rstrip("\r") != head:
-        raise Trouble(f"{path}, line 1: is not {head}")
-    return lines[1:]
+    (first, *lines), head = read_text(path).split("\n"), csv_head(fields)
+    if first.replace(" ", "").rstrip("\r") != head:
+        raise Trouble(f"{path}, line 1: is {shown(first.strip()) if first.strip() else 'empty'}, not {head}")
+    return lines[:-1] if lines and lines[-1] == "" else lines
 
 
-def csv_figures(path, lines, fields):
-    """The figures of each line after the head."""
-    found, faults = [], Faults()
+def csv_figures(path, lines, fields, figure=figure_of, most=None):
+    """The figures of each line after the head. Lines that are wrong are told one by one, at most so many."""
+    found, wrong = [], []
     for number, line in enumerate(lines, 2):
-        with faults.part(), at(f"{path}, line {number}"):
-            found.append(read_line(line, fields))
-    more = len(faults.lines) - MOST_LINES
-    if more > 0:
-        faults.lines[MOST_LINES:] = [f"{path}: more lines that are wrong: {more}"]
-    faults.tell()
+        try:
+            found.append(read_line(line, fields, figure))
+        except Trouble as trouble:
+            wrong.append([f"{path}, line {number}: {words}" for words in trouble.lines])
+    faults = [words for line in wrong[:most] for words in line]
+    if len(wrong) > len(wrong[:most]):
+        faults.append(f"{path}: more lines that are wrong: {len(wrong[most:])}")
+    if faults:
+        raise Trouble(*faults)
     return found
 
 
-def read_line(line, fields):
+def read_line(line, fields, figure):
+    if not line.strip():
+        raise Trouble("is empty")
     cells = line.split(",")
     if len(cells) != len(fields):
         raise Trouble(f"has not {len(fields)} figures with commas between them")
-    figures = []
+    figures, faults = [], Faults()
     for field, cell in zip(fields, cells):
-        with at(field.key):
-            figures.append(figure_of(cell, field))
+        with faults.part(), at(field.key):
+            figures.append(figure(cell, field))
+    faults.tell()
     return figures
 
 

@@ -70,7 +70,8 @@ class Refusal(NamedTuple):
     entry: Entry = None     # any other field,
     allowed: str = ""       # and what is allowed there
     remark: str = ""
-    source: str = ""        # where it stands, if not in the sheet: a list's name, with the line or the byte
+    source: str = ""        # the list that it stands in, if not in the sheet,
+    line: int = None        # and its line in the list's text
 
     @property
     def rule(self):
@@ -79,8 +80,12 @@ class Refusal(NamedTuple):
     def field(self, names=None):
         """The field and what is wrong with it."""
         if self.entry is None:
-            return f"{self.source}{self.said}{self.remark}"
-        return f"{self.source}{self.entry.where(names)}, {self.figure()}{self.remark}"
+            return f"{self.in_list()}{self.said}{self.remark}"
+        return f"{self.in_list()}{self.entry.where(names)}, {self.figure()}{self.remark}"
+
+    def in_list(self):
+        """In front of a list's field: its name, and the line or the byte."""
+        return f"{self.source}, {f'line {self.line}' if self.line else f'byte {self.place}'}: " if self.source else ""
 
     def figure(self):
         unit = self.entry.field.unit

@@ -3,12 +3,12 @@
 Layout and numbers are those of request 1 of document 02. Amounts are in tenths of a megawatt. An aid for people: lists
 are applied by the proved program, and its answer holds.
 """
+import re
 from collections import Counter
 from typing import NamedTuple
 
-from files import Trouble, name_of, read_bytes
-from inputs import MOST_READ
-from monthtext import csv_figures, csv_lines, csv_text
+from files import ListTrouble, Trouble
+from monthtext import NUMBER, csv_figures, csv_lines, csv_text, figure_of, shown
 from names import NO_NAMES
 from printing import table_lines
 from records import CAPACITY, PLAIN, TOP_CAPACITY, Entry, Field, Sheet, packing
@@ -54,21 +54,15 @@ class GivenList(NamedTuple):
         place, field = ENTRY_PLACES[key]
         place += FRONT + ENTRY * entry
         figure = int.from_bytes(self.content[place:place + field.width], "big")
-        source = f"{self.name}, line {entry + 2}: " if self.is_text else f"{self.name}, byte {place}: "
         return Refusal(number, place, entry=Entry(place, "entry", entry, None, field, figure), allowed=words,
-                       source=source)
+                       source=self.name, line=entry + 2 if self.is_text else None)
 
 
 # ------------------------------------------------------------------ bytes and text
 
-
-def is_list_text(path):
-    """Lists and their texts are known by the ends of their names, as months' texts are."""
-    return str(path).lower().endswith(TEXT_ENDING)
-
-
-def is_list(path):
-    return is_list_text(path) or str(path).lower().endswith(BYTES_ENDING)
+PARTIES = ("giver", "taker")
+TEXT_BEGINS = re.compile(rb"(\xef\xbb\xbf)?day *[,;]")    # with or without a byte order mark
+TEXT_WORDS = f"begins as a list's text does, whose name ends in {TEXT_ENDING}"
 
 
 def list_bytes(transfers):
@@ -84,31 +78,24 @@ def transfers_of(content):
 
 def read_text(path):
     """The bytes of a list that is kept as text."""
-    return list_bytes(csv_figures(path, csv_lines(path, ENTRY_FIELDS), ENTRY_FIELDS))
+    try:
+        return list_bytes(csv_figures(path, csv_lines(path, ENTRY_FIELDS), ENTRY_FIELDS, entry_figure))
+    except Trouble as trouble:
+        raise ListTrouble(*trouble.lines) from None
+
+
+def entry_figure(cell, field):
+    """A figure of an entry's line. Giver and taker are written as numbers, since two names may be alike."""
+    if field.key in PARTIES and not NUMBER.fullmatch(cell.strip().removeprefix("-")):
+        raise Trouble(f"{shown(cell.strip())} is not the number of a consumer, from 0 in the order of the month")
+    return figure_of(cell, field)
 
 
 def text_files(name, content, path):
     """The file of a list's text, name and bytes."""
-    if not is_list_text(path):
-        raise Trouble(f"{path}: is to be the text of a list, whose name ends in {TEXT_ENDING}")
     for place, words in front_faults(content):
         raise Trouble(f"{name}: cannot be written as text: byte {place}: {words}")
     return {path: csv_text(transfers_of(content), ENTRY_FIELDS).encode()}
-
-
-def read_list(path):
-    if is_list_text(path):
-        return GivenList(str(path), read_text(path), True)
-    return GivenList(name_of(path), read_bytes(path, MOST_READ), False)
-
-
-def read_lists(paths):
-    """Lists that are to be applied. The program would take a longer one for its first bytes, so it is not given any."""
-    lists = [read_list(path) for path in paths or ()]
-    for each in lists:
-        if len(each.content) > HANDED_OVER:
-            raise Trouble(f"{each.name}: has {len(each.content)} bytes, and the program takes at most {HANDED_OVER}")
-    return lists
 
 
 # ------------------------------------------------------------------ refusals
@@ -121,7 +108,8 @@ def front_faults(content):
         return
     length, version = FRONT_PACKING.unpack_from(content)
     if length != len(content):
-        yield 0, f"length, {length}, but there are {len(content)} bytes"
+        text = f"; it {TEXT_WORDS}" if TEXT_BEGINS.match(content) else ""
+        yield 0, f"length, {length}, but there are {len(content)} bytes{text}"
     elif (length - FRONT) % ENTRY:
         yield 0, f"length, {length}: bytes after the last whole entry: {(length - FRONT) % ENTRY}"
     if version != VERSION:
@@ -148,7 +136,7 @@ def day_faults(day):
 def name_faults(transfer, consumers):
     """What 13 finds in an entry's names."""
     there = f"consumers 0 to {consumers - 1}" if consumers else "no consumer"
-    for key in ("giver", "taker"):
+    for key in PARTIES:
         if getattr(transfer, key) >= consumers:
             yield 13, key, f"the sheet has {there}"
     if transfer.giver == transfer.taker:
@@ -174,8 +162,7 @@ def apply(transfer, volumes):
 def list_refusals(given, volumes, names=NO_NAMES):
     """Every field of a list that breaks a rule, by the turn of its number and then by its place. The contract volumes
     become those after the list; an entry that cannot be applied is left out, and the next ones are tried without it."""
-    found = [Refusal(13, place, words, source=f"{given.name}, byte {place}: ")
-             for place, words in front_faults(given.content)]
+    found = [Refusal(13, place, words, source=given.name) for place, words in front_faults(given.content)]
     for number, transfer in enumerate(known_transfers(given.content)):
         wrong = list(name_faults(transfer, len(volumes))) or list(turn_faults(transfer, volumes, names))
         if not wrong:
@@ -189,15 +176,25 @@ def contract_volumes(given):
     return [consumer.contract for consumer in Sheet.from_bytes(given.content[:HANDED_OVER]).consumers]
 
 
+def sheet_after(given, volumes):
+    """The sheet of such a month, with these contract volumes."""
+    sheet = Sheet.from_bytes(given.content[:HANDED_OVER])
+    for consumer, volume in zip(sheet.consumers, volumes):
+        consumer.contract = volume
+    return sheet
+
+
 def judged(given, lists):
     """Every field that breaks a rule, of the sheet and then of each list, applied in order; and the contract volumes
-    after the lists. Where the places of the sheet's records cannot be told, the lists are left out."""
-    found, volumes = all_refusals(given.content), []
-    if places_known(found):
-        volumes = contract_volumes(given)
-        for each in lists:
-            found += list_refusals(each, volumes, given.names)
-    return found, volumes
+    after the lists, or the month's own if there is a refusal. Where the places of the sheet's records cannot be told,
+    the lists are left out."""
+    found = all_refusals(given.content)
+    if not places_known(found):
+        return found, []
+    before, after = contract_volumes(given), contract_volumes(given)
+    for each in lists:
+        found += list_refusals(each, after, given.names)
+    return found, before if found else after
 
 
 def first_refusal(given, lists):
@@ -205,11 +202,16 @@ def first_refusal(given, lists):
     return next(iter(judged(given, lists)[0]), None)
 
 
-def unlikely_entries(given):
-    """What a list may have, but hardly ever has."""
-    for number, transfer in enumerate(known_transfers(given.content)):
-        if transfer.amount == 0:
-            yield f"{given.name}: entry {number}: amount is 0"
+def unlikely_lists(lists):
+    """What lists may have, but hardly ever have."""
+    for given in lists:
+        for number, transfer in enumerate(known_transfers(given.content)):
+            if transfer.amount == 0:
+                yield f"{given.name}: entry {number}: amount is 0"
+    for content, count in Counter(given.content for given in lists).items():
+        if count > 1 and transfers_of(content):
+            alike = ", ".join(given.name for given in lists if given.content == content)
+            yield f"the same list is given {count} times: {alike}"
 
 
 # ------------------------------------------------------------------ tables
@@ -217,18 +219,16 @@ def unlikely_entries(given):
 
 def list_lines(content, names=NO_NAMES):
     """A list as far as it can be read, whether it would be refused or not."""
+    faults = [f"refusal 13, byte {place}: {words}" for place, words in front_faults(content)]
     if len(content) < FRONT:
-        return [f"The list ends after {len(content)} bytes, before its first entry."]
+        return faults
     lines = [f"{field.words:20}{figure}" for field, figure in zip(FRONT_FIELDS, FRONT_PACKING.unpack_from(content))]
     cells = [entry_cells(number, transfer, names) for number, transfer in enumerate(transfers_of(content))]
     if cells:
         left = (2, 3) if names.consumer else ()
         lines += ["", "Entries, in the order in which they are applied; amounts in MW",
                   *table_lines(ENTRY_HEADS, cells, left)]
-    rest = (len(content) - FRONT) % ENTRY
-    if rest:
-        lines += ["", f"The list ends after {len(content)} bytes, inside entry {len(cells)}."]
-    return lines
+    return [*lines, "", *faults] if faults else lines
 
 
 def entry_cells(number, transfer, names):

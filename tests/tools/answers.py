@@ -154,9 +154,10 @@ def test_result_bytes(folder):
         check((folder / f"{name}.bin").read_bytes().hex() == printed.split()[2], f"--result: {name}: the bytes")
     (folder / "old.bin").write_bytes(b"old")
     (folder / "month.sheet").write_bytes((EXAMPLES / "small.sheet").read_bytes())
+    (folder / "link").symlink_to("month.sheet")
     for words, message in (
         (["old.bin", "month.sheet"], "settle: old.bin: exists; --force writes over it"),
-        (["month.sheet", "--force", "month.sheet"], "settle: month.sheet: is read here"),
+        (["link", "--force", "month.sheet"], "settle: link: is read here"),
         (["no/new.bin", "month.sheet"], "settle: no/new.bin: cannot be written: No such file"),
         ([".", "month.sheet"], "settle: .: is a folder"),
         (["new.bin", "month.sheet", "month.sheet"], "settle: --result takes the result of one month"),
@@ -166,7 +167,8 @@ def test_result_bytes(folder):
     done = report("--result", "old.bin", "--force", EXAMPLES / "refused-9.toml", folder=folder)
     check((done.returncode, done.stdout) == (1, b"N9\n") and files_in(folder) == before, "--result: refused",
           words_of(done))
-    check(b"settle: old.bin: is not written, since " in done.stderr, "--result: refused, the message", words_of(done))
+    check(done.stderr.decode() == f"settle: old.bin: is not written, since {EXAMPLES / 'refused-9.toml'} is refused by "
+          "9\n", "--result: refused, the message", words_of(done))
 
 
 def test_statuses(folder):
@@ -203,7 +205,8 @@ def test_other_programs(folder):
                     "is no listing of this sheet", status=2, command=report, program=program)
     (folder / "program.says").write_text("N20\\n")
     month, = json.loads(form("json", "small.sheet", program=program, folder=EXAMPLES))
-    wanted = {"number": 20, "words": "a rule that tools/refusals.py does not know", "byte": None, "field": None}
+    wanted = {"number": 20, "list": None, "words": "a rule that tools/refusals.py does not know", "byte": None,
+              "field": None}
     check(month["refusal"] == wanted, "a number that the tools do not know", str(month))
     done = report("--explain", "small.sheet", program=program, folder=EXAMPLES)
     check(b"has another answer; the program's holds" in done.stderr, "--explain: another answer", words_of(done))

@@ -119,7 +119,10 @@ def test_readmes():
     for option in ("--table", "--csv", "--json", "--explain", "--transfers", "--sheet", "--result", "--force",
                    "--strict", "--version"):
         check(option in usage and f"`{option}" in readme, f"{option} stands in tools/README.md and ./settle --help")
-    check("docs/RULES.md" in readme and "docs/RULES.md" in usage, "the rules' document is named")
+    for words in (readme, usage, sheet("--help").stdout.decode()):
+        words = " ".join(words.split())
+        check("docs/RULES.md" in words and '"When a sheet is turned down", of a list under Requests, 1' in words,
+              "the rules' document is named, with its tables of numbers")
     check(max(map(len, readme.split("\n"))) <= 118, "tools/README.md is wrapped")
     readme = (EXAMPLES / "README.md").read_text()
     for path in (*EXAMPLES.glob("*.sheet"), *EXAMPLES.glob("*.list")):

@@ -5,15 +5,16 @@ import subprocess
 import time
 from hashlib import sha256
 
-from checks import EXAMPLES, PROGRAM, ROOT, TRANSFER_PROGRAM, check, files_in, report, run, sheet, words_of
-from texts import GOOD, changed
+from checks import EXAMPLES, PROGRAM, ROOT, TRANSFER_PROGRAM, check, files_in, run, sheet, words_of
+from texts import BACK, GOOD, changed
+from use import NOT_A_LIST, NOT_A_MONTH
 
 TOOLS_USED = ("sh", "dirname", "readlink", "find", "cat", "mkdir", "mv", "rm", "cp", "mktemp", "chmod", "awk", "sleep",
               "sort", "xargs", "sha256sum", "cut", "git", "python3", "env", "wc")
 STAND_IN = """\
 #!/bin/sh
 # rt in the tests: eats its standard input, counts its checks, and puts the program of a crate into place.
-case $1 in version) cat "$0.version"; exit 0 ;; esac
+case $1 in version) cat "$0.version"; exit ;; esac
 cat >/dev/null
 echo "$*" >>"$0.log"
 [ ! -f "$0.slow" ] || sleep 1
@@ -87,7 +88,7 @@ class House:
     def fails(self, name, said, words=(), commands=None):
         """Settles nothing, says why, and leaves target/ as it was."""
         before = files_in(self.root / "target")
-        done = run(self.root / "settle", *words, stdin=EXAM, path=commands or self.bin)
+        done = run("./settle", *words, stdin=EXAM, folder=self.root, path=commands or self.bin)
         check(done.returncode == 2 and not done.stdout, f"settle: {name}: status", words_of(done))
         check(said in done.stderr.decode(), f"settle: {name}: message", words_of(done))
         after = files_in(self.root / "target")
@@ -120,6 +121,9 @@ def test_building(folder):
     house.settles("a source taken away", 1, b"up to date")
     (house.root / "crates.txt").write_text("rules: \n")
     house.settles("crates.txt", 1, b"up to date\nrt: rules proved (3 s)\n")
+    house.beside_rt("version").unlink()
+    house.fails("an rt that fails", "rt.version: No such file or directory\nsettle: rt is on the PATH, but fails: "
+                "'rt version' ended with status 1\n")
     house.beside_rt("version").write_text("kit 2\n")
     house.settles("another version of rt", 1, b"up to date")
     (house.root / "target" / "bin" / "settle").unlink()
@@ -301,6 +305,27 @@ def test_transfers_built(folder):
                 "decimal", ["--transfers", bad, EXAMPLES / "month.sheet"])
 
 
+def test_kinds(folder):
+    """A list in a month's place, and a month in a list's: told in tools/report's words, without Python or a program."""
+    house = House(folder)
+    (house.bin / "python3").unlink()
+    month = "examples/month.sheet"
+    for words, said in (
+        (["examples/transfers.list"], f"examples/transfers.list: {NOT_A_MONTH}"),
+        (["examples/transfers.csv", "examples/month.toml"], f"examples/transfers.csv: {NOT_A_MONTH}"),
+        (["--table", "none.CSV"], f"none.CSV: {NOT_A_MONTH}"), (["--", "-x.List"], f"./-x.List: {NOT_A_MONTH}"),
+        (["--transfers", "examples/transfers.list", "examples/refused-13.list", month],
+         f"examples/refused-13.list: {NOT_A_MONTH}"),
+        (["--transfers", "examples/month.toml", "examples/transfers.csv"], f"examples/month.toml: {NOT_A_LIST}"),
+        ([month, "--transfers", month], f"{month}: {NOT_A_LIST}"),
+        (["--transfers=-x.TOML"], f"./-x.TOML: {NOT_A_LIST}"),
+    ):
+        done = house.settle(*words)
+        check((done.returncode, done.stdout, done.stderr.decode()) == (2, b"", f"settle: {said}\n"),
+              f"settle {words}", words_of(done))
+    check(house.checks() == 0, "settle: nothing is built for a name in the wrong place")
+
+
 def test_transfers(folder):
     """Lists on the command line: names, several, pipes, refusals, forms, what needs Python, wrong use."""
     house, elsewhere = House(folder), folder / "else where"
@@ -317,11 +342,7 @@ def test_transfers(folder):
         check(done.returncode == 0 and done.stdout == wanted and not done.stderr, f"settle {words}", words_of(done))
     done = house.settle("--transfers", "/dev/stdin", month, stdin=(EXAMPLES / "transfers.list").read_bytes())
     check(done.stdout == wanted and not done.stderr, "settle --transfers: a list from a pipe", words_of(done))
-    twice = report("--transfers", EXAMPLES / "transfers.list", "--transfers", EXAMPLES / "transfers.csv", month).stdout
-    for lists in (("transfers.list", "transfers.list"), ("transfers.csv", "transfers.list")):
-        words = [word for name in lists for word in ("--transfers", name)]
-        done = house.settle(*words, "month.sheet", folder=EXAMPLES)
-        check(done.stdout == twice and twice not in (wanted, LISTINGS["month"]), f"settle {words}", words_of(done))
+    check_order(house, folder)
     for name in ("refused-13", "refused-14", "refused-15"):
         listing = (EXAMPLES / f"{name}.listing").read_bytes()
         for words, status in (([], 0), (["--strict"], 1), (["--transfers", f"examples/{name}.csv"], 0)):
@@ -354,6 +375,19 @@ def test_transfers(folder):
             done = house.settle("--transfers", "examples/refused-15.list", f"examples/{name}.sheet")
             check(done.stdout == listing and not done.stderr, f"settle --transfers: {name}", words_of(done))
     check_wrong_lists(house, month)
+
+
+def check_order(house, folder):
+    """Several lists are applied in the order given: there and back is the month again, back before there is refused."""
+    (folder / "back.csv").write_text(BACK)
+    sheet("pack", "back.csv", "back.list", folder=folder)
+    for suffix in ("list", "csv"):
+        there, back = EXAMPLES / f"transfers.{suffix}", folder / f"back.{suffix}"
+        for lists, wanted in (((there, back), LISTINGS["month"]), ((back, there), b"N15\n")):
+            words = [word for each in lists for word in ("--transfers", each)]
+            done = house.settle(*words, EXAMPLES / "month.sheet")
+            check(done.returncode == 0 and done.stdout == wanted and not done.stderr,
+                  f"settle --transfers: {lists[0].name}, then {lists[1].name}", words_of(done))
 
 
 def check_wrong_lists(house, month):
@@ -432,6 +466,8 @@ def test_version(folder):
           str(found))
     (house.source / "lib.rt").unlink()
     check(lines()["sources"] == "unknown: one of them cannot be read", "settle --version: a source is missing")
+    house.beside_rt("version").unlink()
+    check(lines()["kit"] == "unknown: 'rt version' ended with status 1", "settle --version: an rt that fails")
     check(house.checks() == 0 and not (house.root / "target/bin").exists(), "settle --version builds nothing")
 
 

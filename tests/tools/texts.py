@@ -47,6 +47,8 @@ price = "1000.05"
 CONSTANT = 'hours = { working = "99.0", possible = "110.5", outside = "10.0" }'
 CSV = "working,possible,outside\n" + 672 * "99.0,110.5,10.0\n"
 MONTH = "year = 2021\nmonth = 2\nholidays = []"
+# A list that takes back what examples/transfers.csv does to its month.
+BACK = "day,giver,taker,amount\n1,19,8,5.5\n1,10,29,16.0\n1,29,31,20.0\n"
 
 # Other ways to write the same month.
 SAME = {
@@ -156,13 +158,14 @@ def first_hour(line):
 
 # A CSV file in place of the good one, and words of the message.
 BAD_CSV = [
-    (b"", "hours.csv, line 1: is not working,possible,outside"),
-    (CSV.replace("working,", "worked,").encode(), "hours.csv, line 1: is not working,possible,outside"),
-    (CSV.replace(",", ";").encode(), "hours.csv, line 1: is not"),
+    (b"", "hours.csv, line 1: is empty, not working,possible,outside"),
+    (CSV.replace("working,", "worked,").encode(),
+     'hours.csv, line 1: is "worked,possible,outside", not working,possible,outside'),
+    (CSV.replace(",", ";").encode(), 'hours.csv, line 1: is "working;possible;outside", not working,possible,outside'),
     (CSV[:-16].encode(), "hours.csv: has 671 lines after the head; the month has 672 hours"),
     (CSV.encode() + b"1,1,1\n", "hours.csv: has 673 lines after the head"),
     (CSV.encode() + b"\n", "hours.csv: has 673 lines after the head"),
-    (first_hour("\n"), "hours.csv, line 2: has not 3 figures"),
+    (first_hour("\n"), "hours.csv, line 2: is empty"),
     (first_hour("99.0,110.5,10,0\n"), "hours.csv, line 2: has not 3 figures"),
     (first_hour("99.0,110.55,10.0\n"), 'hours.csv, line 2: possible: "110.55" has more than one'),
     (first_hour("99.0,110.5,-1\n"), 'hours.csv, line 2: outside: "-1" is negative'),

@@ -2,9 +2,7 @@
 import csv
 import io
 import json
-import struct
 import tempfile
-from itertools import accumulate, pairwise
 
 import programs
 import records
@@ -13,6 +11,7 @@ from checks import EXAMPLES, TRANSFER_PROGRAM, check, files_in, report, run, tur
 from transfers import Transfer
 
 STORED = EXAMPLES.parent / "crates" / "vectors" / "data" / "transfers"
+STORED_LISTS = 21    # docs/EVIDENCE.md
 MONTHS = EXAMPLES / "month.toml", EXAMPLES / "month.sheet"
 CHANGED = (EXAMPLES / "month-transferred.sheet").read_bytes()
 LISTING = (EXAMPLES / "month-transferred.listing").read_text()
@@ -43,22 +42,14 @@ def written(packed, content):
     return run("sh", "-c", 'exec "$0" 3<"$1"', TRANSFER_PROGRAM, packed, stdin=content).stdout
 
 
-def stored_lists():
-    """Each stored sheet with its list, and what the rival answered: the sheet afterwards, or the line of a refusal."""
-    content, place = STORED.read_bytes(), 0
-    while place < len(content):
-        sheet, listed, refused, number = struct.unpack_from(">IIBI", content, place)
-        ends = list(accumulate((place + 13, sheet, listed, sheet)))
-        parts = [content[start:end] for start, end in pairwise(ends)]
-        yield parts[0], parts[1], f"N{number}\n".encode() if refused else parts[2]
-        place = ends[-1]
-
-
 def test_stored(folder):
     """The program that applies lists, alone, on the stored cases."""
-    for count, (sheet, packed, answer) in enumerate(stored_lists()):
+    stored = list(programs.stored_lists(STORED.read_bytes()))
+    check(len(stored) == STORED_LISTS, f"transfer_sheet: {len(stored)} stored lists")
+    for count, (sheet, packed, answer) in enumerate(stored):
         (folder / "list").write_bytes(packed)
-        check(written(folder / "list", sheet) == answer, f"transfer_sheet: stored list {count}")
+        wanted = b"N%d\n" % answer if isinstance(answer, int) else answer
+        check(written(folder / "list", sheet) == wanted, f"transfer_sheet: stored list {count}")
 
 
 def test_program():
@@ -111,6 +102,8 @@ def test_forms():
     consumers = [row for row in rows if row["record"] == "consumer"]
     for name, found in (("--json", month["consumers"]), ("--csv", consumers)):
         check([each["contract_volume"] for each in found] == volumes, f"{name}: the contract volumes")
+    check(month["transfers"] == ["transfers.csv"] and {row["transfers"] for row in rows} == {"transfers.csv"},
+          "--json, --csv: the list is named")
     check(f"T {month['totals']['paid']} {month['totals']['charged']}" == LISTING.splitlines()[-1], "--json: the totals")
 
 
@@ -122,10 +115,11 @@ def test_refused():
     done = report("--form", "table", *words, folder=EXAMPLES)
     check(done.stdout.decode() == f"month.sheet: refused by 15: {rule}\n{field}\n", "--table: refused", words_of(done))
     month, = json.loads(report("--form", "json", *words, folder=EXAMPLES).stdout)
-    check(month["refusal"] == {"number": 15, "words": rule, "byte": 8, "field": field}, "--json: refused", str(month))
+    wanted = {"number": 15, "list": "refused-15.csv", "words": rule, "byte": 8, "field": field}
+    check(month["refusal"] == wanted, "--json: refused", str(month))
     row, = csv.DictReader(io.StringIO(report("--form", "csv", *words, folder=EXAMPLES).stdout.decode()))
-    check((row["refusal"], row["words"], row["byte"], row["field"]) == ("15", rule, "8", field), "--csv: refused",
-          str(row))
+    found = [row[key] for key in ("record", "refusal", "list", "words", "byte", "field")]
+    check(found == ["refusal", *map(str, wanted.values())], "--csv: refused", str(row))
     done = report("--explain", "--strict", *words, folder=EXAMPLES)
     check((done.returncode, done.stdout) == (1, b"N15\n") and done.stderr.decode() ==
           f"month.sheet: refusal 15: {rule}\nmonth.sheet: {field}\n", "--explain, --strict: refused", words_of(done))
@@ -137,6 +131,24 @@ def test_refused():
           "--explain: a refused sheet with a list", words_of(done))
 
 
+def test_named_lists():
+    """JSON and CSV name the lists that were given, in their order, and the one that is refused, if one is."""
+    for lists, month, refused in (
+        ([], "month.sheet", ""), ([], "refused-9.sheet", ""),
+        (["transfers.csv", "transfers.list"], "month.sheet", ""),
+        (["transfers.list", "refused-14.csv", "refused-13.list"], "month.toml", "refused-14.csv"),
+        (["refused-15.list", "transfers.csv"], "month.sheet", "refused-15.list"),
+        (["refused-13.list", "transfers.csv"], "refused-9.sheet", ""),
+    ):
+        words = [*with_lists(*lists), month]
+        found, = json.loads(report("--form", "json", *words, folder=EXAMPLES).stdout)
+        by_json = found["transfers"], found["refusal"] and found["refusal"]["list"] or ""
+        check(by_json == (lists, refused), f"--json: {words}", str(found))
+        rows = csv.DictReader(io.StringIO(report("--form", "csv", *words, folder=EXAMPLES).stdout.decode()))
+        by_csv = {(row["transfers"], row["list"]) for row in rows}
+        check(by_csv == {(" ".join(lists), refused)}, f"--csv: {words}", str(by_csv))
+
+
 def test_odd_names(folder):
     """A list's name that is no text: as it is for people, in UTF-8 for programs."""
     name = "\udcff,\n.list"
@@ -146,6 +158,8 @@ def test_odd_names(folder):
     row, = csv.DictReader(io.StringIO(report("--form", "csv", *words, folder=folder).stdout.decode()))
     field = "\\udcff,\n.list, byte 19: entry 2, day filed, 21 (at most 20)"
     check(month["refusal"]["field"] == row["field"] == field, "--csv, --json: a list's name", str(month))
+    named = [*month["transfers"], month["refusal"]["list"], row["transfers"], row["list"]]
+    check(named == ["\\udcff,\n.list"] * 4, "--csv, --json: a list's name alone", str(named))
     done = report("--form", "table", *words, folder=folder)
     check(done.stdout.endswith(b"\n\xff,\n.list, byte 19: entry 2, day filed, 21 (at most 20)\n"),
           "--table: a list's name", words_of(done))
@@ -156,6 +170,7 @@ def test_changed_sheet(folder):
     (folder / "old").write_bytes(b"old")
     (folder / "a.list").write_bytes((EXAMPLES / "transfers.list").read_bytes())
     (folder / "month.sheet").write_bytes(MONTHS[1].read_bytes())
+    (folder / "link").symlink_to("a.list")
     for words in (["new.sheet"], ["old", "--force"], ["-x"]):
         done = report(f"--sheet={words[0]}", *words[1:], "--transfers", "a.list", "month.sheet", folder=folder)
         check(done.stdout.decode() == LISTING and (folder / words[0]).read_bytes() == CHANGED, f"--sheet {words}",
@@ -167,7 +182,7 @@ def test_changed_sheet(folder):
     for words, message in (
         (["new.sheet"], "settle: new.sheet: exists; --force writes over it"),
         (["month.sheet", "--force"], "settle: month.sheet: is read here"),
-        (["a.list", "--force"], "settle: a.list: is read here"),
+        (["link", "--force"], "settle: link: is read here"),
         (["no/new.sheet"], "settle: no/new.sheet: cannot be written: No such file"),
         (["."], "settle: .: is a folder"),
         (["one", "--result", "./one"], "settle: one: is to be the result and the sheet; give two names"),
@@ -178,15 +193,20 @@ def test_changed_sheet(folder):
     turned_down("--sheet", folder, ["--sheet", "one", "month.sheet"], "settle: --sheet goes with --transfers", status=2,
                 command=report)
     before = files_in(folder)
-    words = ["--sheet", "old", "--force", "--transfers", EXAMPLES / "refused-14.list", "month.sheet"]
+    refused = EXAMPLES / "refused-14.list"
+    words = ["--sheet", "old", "--force", *with_lists("a.list", refused), "month.sheet"]
     done = report(*words, folder=folder)
     check((done.returncode, done.stdout) == (1, b"N14\n") and files_in(folder) == before, "--sheet: refused",
           words_of(done))
-    said = "settle: old: is not written, since month.sheet is refused by 14\n"
+    said = f"settle: old: is not written, since {refused} is refused by 14\n"
     check(done.stderr.decode() == said, "--sheet: refused, the message", words_of(done))
     done = report(*words, "--result", "none.bin", folder=folder)
     check(done.returncode == 1 and done.stderr.decode() == said.replace("old", "none.bin") + said
           and files_in(folder) == before, "--sheet and --result: refused", words_of(done))
+    refused = EXAMPLES / "refused-9.sheet"
+    done = report(*words[:-1], refused, folder=folder)
+    check(done.stderr.decode() == f"settle: old: is not written, since {refused} is refused by 9\n",
+          "--sheet: a refused sheet with a list", words_of(done))
 
 
 def test_several(folder):
@@ -221,7 +241,7 @@ def test_statuses(folder):
         (["none.csv"], "settle: none.csv: cannot be read: No such file"),
         (["."], "settle: .: cannot be read: Is a directory"),
         (["bad.csv"], 'settle: bad.csv, line 2: amount: "1.05" has more than one decimal (and 1 more; tools/sheet '
-                      "check lists them all)"),
+                      "check --transfers LIST MONTH lists them all)"),
         (["long.list"], "settle: long.list: has 65537 bytes, and the program takes at most 65536"),
         (["none.list", MONTHS[1]], "settle: --transfers goes with one month"),
     ):

@@ -1,15 +1,17 @@
 """Files that are missing or exist already, bad results, wrong use, an old Python, and standard input and output in
 trouble."""
 import ast
+import shutil
 import struct
 import subprocess
 import sys
+from pathlib import Path
 
 import records
 import refusals
 import results
-from checks import EXAMPLES, REPORT, SHEET, check, run, sheet, turned_down, words_of
-from texts import CONSTANT, CSV, GOOD, changed
+from checks import EXAMPLES, REPORT, SHEET, check, report, run, sheet, turned_down, words_of
+from texts import BACK, CONSTANT, CSV, GOOD, changed
 
 
 def test_files(folder):
@@ -18,6 +20,8 @@ def test_files(folder):
     (folder / "hours.csv").write_text(CSV.replace("99.0", "98.0", 1))
     (folder / "old").write_text("kept")
     (folder / "folder").mkdir()
+    for link, file in (("text", "month.toml"), ("hours", "hours.csv"), ("sheet", "out.sheet")):
+        (folder / link).symlink_to(file)
     for name, words, message in (
         ("pack", ["pack", "none.toml", "out.sheet"], "none.toml: cannot be read: No such file"),
         ("pack", ["pack", "folder", "out.sheet"], "folder: cannot be read: Is a directory"),
@@ -27,8 +31,8 @@ def test_files(folder):
         ("pack", ["pack", "month.toml", "none/", "--force"], "none/: is a folder"),
         ("pack", ["pack", "month.toml", "", "--force"], ": cannot be written: No such file"),
         ("pack", ["pack", "month.toml", "none/out.sheet"], "none/out.sheet: cannot be written: No such file"),
-        ("pack", ["pack", "month.toml", "month.toml", "--force"], "month.toml: is read here"),
-        ("pack", ["pack", "month.toml", "hours.csv", "--force"], "hours.csv: is read here"),
+        ("pack", ["pack", "month.toml", "text", "--force"], "text: is read here"),
+        ("pack", ["pack", "month.toml", "hours", "--force"], "hours: is read here"),
     ):
         turned_down(name, folder, words, message)
     done = sheet("pack", "month.toml", "out.sheet", folder=folder)
@@ -38,7 +42,7 @@ def test_files(folder):
         ("unpack", ["unpack", "none.sheet", "new.toml"], "none.sheet: cannot be read: No such file"),
         ("unpack", ["unpack", "out.sheet", "old"], "old: exists; --force writes over it"),
         ("unpack", ["unpack", "out.sheet", "new.toml"], "new-producer-0.csv: exists; --force writes over it"),
-        ("unpack", ["unpack", "out.sheet", "out.sheet", "--force"], "out.sheet: is read here"),
+        ("unpack", ["unpack", "out.sheet", "sheet", "--force"], "sheet: is read here"),
         ("unpack", ["unpack", "out.sheet", "none/new.toml"], "cannot be written: No such file"),
         ("unpack", ["unpack", "out.sheet", "folder", "--force"], "folder: is a folder"),
         ("show", ["show", "none.sheet"], "none.sheet: cannot be read: No such file"),
@@ -57,12 +61,73 @@ def test_files(folder):
     check((folder / "old").read_bytes() == (folder / "out.sheet").read_bytes(), "--force", words_of(done))
 
 
+# Names that say something else than what is read or written under them, and what is said.
+NOT_A_MONTH = "is a list by its name; give it with its month, as --transfers LIST MONTH"
+NOT_A_LIST = "is a month by its name, and --transfers wants a list"
+KINDS = [
+    *((f"{command} {name}", f"{name}: {NOT_A_MONTH}") for command in ("check", "explain")
+      for name in ("a.list", "a.csv", "A.CSV", ".list")),
+    *((f"{command} --transfers {name} a.sheet", f"{name}: {NOT_A_LIST}") for command in ("check", "explain", "show")
+      for name in ("a.sheet", "a.toml", "A.Sheet")),
+    ("show --transfers a.list a.list", f"a.list: {NOT_A_MONTH}"),
+    ("result a.bin --sheet a.list", f"a.list: {NOT_A_MONTH}"),
+    ("result a.bin --sheet a.sheet --transfers a.sheet", f"a.sheet: {NOT_A_LIST}"),
+    ("pack a.sheet new", "a.sheet: is a sheet by its name, and pack wants a text"),
+    ("pack a.list new", "a.list: is a packed list by its name, and pack wants a text"),
+    ("pack a.toml new.TOML", "new.TOML: is a month's text by its name, and a sheet is to be written"),
+    ("pack a.toml new.csv", "new.csv: is a list's text by its name, and a sheet is to be written"),
+    ("pack a.toml new.list", "new.list: is a packed list by its name, and a sheet is to be written"),
+    ("pack a.csv new.csv", "new.csv: is a list's text by its name, and a packed list is to be written"),
+    ("pack a.csv a.csv --force", "a.csv: is a list's text by its name, and a packed list is to be written"),
+    ("pack a.csv new.sheet", "new.sheet: is a sheet by its name, and a packed list is to be written"),
+    ("unpack a.toml new", "a.toml: is a month's text by its name, and unpack wants bytes"),
+    ("unpack a.csv new.csv", "a.csv: is a list's text by its name, and unpack wants bytes"),
+    ("unpack a.sheet new.list", "new.list: is a packed list by its name, and a month's text is to be written"),
+    ("unpack a.sheet new.sheet", "new.sheet: is a sheet by its name, and a month's text is to be written"),
+    ("unpack a.sheet new.csv", "new.csv: is a list's text by its name, and a month's text is to be written"),
+    ("unpack a.list new.toml", "new.toml: is to be the text of a list, whose name ends in .csv"),
+    ("unpack a.list new", "new: is to be the text of a list, whose name ends in .csv"),
+    ("new 2021-12 new.csv", "new.csv: is a list's text by its name, and a month's text is to be written"),
+    ("new 2021-12 new.sheet", "new.sheet: is a sheet by its name, and a month's text is to be written"),
+]
+# The same of ./settle.
+SETTLE_KINDS = [
+    ("a.list", f"a.list: {NOT_A_MONTH}"),
+    ("--transfers A.toml a.sheet", f"A.toml: {NOT_A_LIST}"),
+    ("--transfers a.list --transfers a.sheet a.sheet", f"a.sheet: {NOT_A_LIST}"),
+    ("--transfers a.list --sheet new.toml a.sheet",
+     "new.toml: is a month's text by its name, and a sheet is to be written"),
+    ("--transfers a.list --sheet new.LIST a.sheet",
+     "new.LIST: is a packed list by its name, and a sheet is to be written"),
+    ("--result new.csv a.sheet", "new.csv: is a list's text by its name, and a result is to be written"),
+    ("--result new.sheet a.sheet", "new.sheet: is a sheet by its name, and a result is to be written"),
+]
+
+
+def test_kinds(folder):
+    """A name that says something else is turned down, whatever is in the file; one that says nothing is taken."""
+    for name in ("transfers.csv", "transfers.list", "exam-126.sheet", "exam-126.toml"):
+        shutil.copy(EXAMPLES / name, folder / f"a{Path(name).suffix}")
+    (folder / "a.bin").write_bytes(result_bytes(0, 1))
+    for line, message in KINDS:
+        turned_down(line, folder, line.split(), f"tools/sheet: {message}")
+    for line, message in SETTLE_KINDS:
+        turned_down(line, folder, line.split(), f"settle: {message}", status=2, command=report)
+    month, packed = ((EXAMPLES / name).read_bytes() for name in ("month.sheet", "transfers.list"))
+    (folder / "month").write_bytes(month)
+    (folder / "list").write_bytes(packed)
+    for words, stdin in ((["list", "-"], month), (["/dev/stdin", "month"], packed)):
+        done = run(SHEET, "explain", "--transfers", *words, folder=folder, stdin=stdin)
+        check(done.stdout == b"accepted\n", f"names that say nothing: {words}", words_of(done))
+
+
 def test_wrong_use(folder):
     for line in ("", "settle", "pack month.toml", "pack month.toml new more", "pack --forced month.toml new",
                  "pack - new", "unpack", "unpack in.sheet -", "unpack in.sheet --force", "show", "show a b",
                  "show --transfers - a", "explain", "explain a b", "explain --transfers a", "result",
-                 "result a.bin --sheet", "result a.bin b.bin", "check", "check a b", "check a --transfers", "new",
-                 "new 2021", "new 2021-12 - x", "new 2021-12 --rows", "new 2021-12 --rows -1", "new 1-1 --rows 1.0"):
+                 "result a.bin --sheet", "result a.bin b.bin", "result a.bin --transfers a.list", "check", "check a b",
+                 "check a --transfers", "new", "new 2021", "new 2021-12 - x", "new 2021-12 --rows",
+                 "new 2021-12 --rows -1", "new 1-1 --rows 1.0"):
         turned_down(f"wrong use: {line}", folder, line.split(), "usage: tools/sheet", status=2)
 
 
@@ -85,7 +150,7 @@ def test_results(folder):
         (result_bytes(0, 1, paid=1), [], "totals: paid 0.01 is not the sum of the lines, 0.00, so this is no result"),
         (result_bytes(0, 1, paid=1), ["--sheet", "zeros.sheet"], "0.00, so this is no result of zeros.sheet"),
         (result_bytes(1, 1), ["--sheet", "one.sheet"], "its length field says 62; 0 rows and 1 consumers make 46"),
-        (result_bytes(0, 1), ["--sheet", EXAMPLES / "refused-9.sheet"], "is refused by 9, so it has no result"),
+        (result_bytes(0, 1), ["--sheet", EXAMPLES / "refused-9.sheet"], "is refused by 9, so there is no result"),
         (result_bytes(0, 1), ["--sheet", "none.sheet"], "none.sheet: cannot be read"),
     ):
         turned_down("result", folder, ["result", "-", *more], message, stdin=content)
@@ -132,6 +197,35 @@ def test_impossible(folder):
     done = sheet("result", "-", stdin=content[:45] + b"\x0e" + content[46:])
     check(done.returncode == 1 and b"consumer 0: n 1.4 is not that of 1.7 percent, 0.0" in done.stderr,
           "result without a sheet: n", words_of(done))
+
+
+def test_transferred_results(folder):
+    """With lists, a result is held to the month after them, in the order given."""
+    month = EXAMPLES / "month.sheet"
+    for name in ("month", "month-transferred"):
+        listing, content = (EXAMPLES / f"{name}.listing").read_text(), (EXAMPLES / f"{name}.sheet").read_bytes()
+        (folder / f"{name}.bin").write_bytes(results.result_of_listing(listing, content))
+    (folder / "back.csv").write_text(BACK)
+
+    def held(name, *lists):
+        words = [word for each in lists for word in ("--transfers", each)]
+        return sheet("result", name, "--sheet", month, *words, folder=folder)
+    there, back = EXAMPLES / "transfers.list", "back.csv"
+    for name, lists in (("month-transferred", [there]), ("month-transferred", [there.with_suffix(".csv")]),
+                        ("month", [there, back]), ("month-transferred", [there, back, there])):
+        done = held(f"{name}.bin", *lists)
+        check(done.returncode == 0 and done.stdout == (EXAMPLES / f"{name}.listing").read_bytes(),
+              f"result --transfers: {name}, {len(lists)} lists", words_of(done))
+    for name, lists in (("month-transferred.bin", []), ("month.bin", [there])):
+        done = held(name, *lists)
+        ends = "".join(f", after {each}" for each in lists)
+        said = done.stderr.decode().splitlines()
+        check(done.returncode == 1 and {line.split(": ")[2] for line in said} == {
+            f"consumer {number}" for number in (8, 10, 19, 29, 31)} and not done.stdout
+            and all(line.endswith(f", so this is no result of {month}{ends}") for line in said),
+            f"result --transfers: {name} is another's", words_of(done))
+    turned_down("result", folder, ["result", "month.bin", "--sheet", month, "--transfers", back, "--transfers", there],
+                "tools/sheet: back.csv: is refused by 15, so there is no result")
 
 
 OLD_PYTHON = """\

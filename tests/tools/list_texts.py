@@ -2,7 +2,7 @@
 rival."""
 import random
 import struct
-from pathlib import Path
+from typing import NamedTuple
 
 import inputs
 import names
@@ -10,7 +10,7 @@ import programs
 import records
 import refusals
 import transfers
-from checks import EXAMPLES, check, run, sheet, turned_down, words_of
+from checks import EXAMPLES, SHEET, check, run, sheet, turned_down, words_of
 from texts import changed
 from transfers import GivenList, Transfer
 
@@ -29,13 +29,16 @@ SAME = {
 
 # A change of the good text, and words of the message.
 BAD = [
-    ("day,", "days,", "line 1: is not day,giver,taker,amount"),
-    (GOOD, "", "line 1: is not day,giver,taker,amount"),
-    (",", ";", "line 1: is not day,giver,taker,amount"),
-    ("1,0,1,10.0\n", "\n", "line 2: has not 4 figures with commas between them"),
+    ("day,", "days,", 'line 1: is "days,giver,taker,amount", not day,giver,taker,amount'),
+    (GOOD, "", "line 1: is empty, not day,giver,taker,amount"),
+    (GOOD, " \r\n", "line 1: is empty, not day,giver,taker,amount"),
+    (",", ";", 'line 1: is "day;giver;taker;amount", not day,giver,taker,amount'),
+    ("day,giver,taker,amount\n", "", 'line 1: is "1,0,1,10.0", not day,giver,taker,amount'),
+    ("1,0,1,10.0\n", "\n", "line 2: is empty"),
+    ("1,0,1,10.0\n", " \r\n", "line 2: is empty"),
     ("20,1,2,10.5", "20,1,2,10,5", "line 3: has not 4 figures with commas between them"),
     ("20,1,2,10.5", "20,1,2", "line 3: has not 4 figures with commas between them"),
-    ("20,1,2,10.5\n", "20,1,2,10.5\n\n", "line 4: has not 4 figures with commas between them"),
+    ("20,1,2,10.5\n", "20,1,2,10.5\n\n", "line 4: is empty"),
     ("10.5", "10.55", 'line 3: amount: "10.55" has more than one decimal'),
     ("10.5", "-1", 'line 3: amount: "-1" is negative'),
     ("10.5", "429496729.6", 'line 3: amount: "429496729.6" does not fit its field, which holds at most 429496729.5'),
@@ -47,7 +50,21 @@ BAD = [
     ("20,1", "x,1", 'line 3: day: "x" is not a number written plainly, as 100'),
     ("1,0,1", "1,-1,1", 'line 2: giver: "-1" is negative'),
     ("1,0,1", "1,0,256", 'line 2: taker: "256" does not fit its field, which holds at most 255'),
-    ("1,0,1", "1,0,Rolling mill", 'line 2: taker: "Rolling mill" is not a number written plainly, as 100'),
+    ("1,0,1", "1,0,Rolling mill",
+     'line 2: taker: "Rolling mill" is not the number of a consumer, from 0 in the order of the month'),
+    ("1,0,1", "1,,1", 'line 2: giver: "" is not the number of a consumer, from 0 in the order of the month'),
+]
+
+# Faults of a list's text, more than one in a line and more lines than are told of a CSV file of hours.
+FAULTY = "day,giver,taker,amount\nx,0,mill,1.05\n\n1,0\n1,0,1,y\n256,0,1,1\n"
+ALL_FAULTS = [
+    'line 2: day: "x" is not a number written plainly, as 100',
+    'line 2: taker: "mill" is not the number of a consumer, from 0 in the order of the month',
+    'line 2: amount: "1.05" has more than one decimal',
+    "line 3: is empty",
+    "line 4: has not 4 figures with commas between them",
+    'line 5: amount: "y" is not a number written plainly, as 100.0',
+    'line 6: day: "256" does not fit its field, which holds at most 255',
 ]
 
 # Bytes that are no list, and why they cannot be unpacked.
@@ -126,6 +143,12 @@ legal, but unlikely:
   producer 0 (Northern plant): all 744 hours are equal
   wrong.csv: entry 3: amount is 0
 """
+ALL_GOOD = """\
+accepted
+
+legal, but unlikely:
+  producer 0 (Northern plant): all 744 hours are equal
+"""
 SMALL = EXAMPLES / "small.toml"
 
 
@@ -163,10 +186,8 @@ def test_bad(folder):
     (folder / "list.csv").write_bytes(GOOD.encode().replace(b"10.5", b"10\xff"))
     turned_down("pack", folder, ["pack", "list.csv", "out.list"], "list.csv, line 3: is not text in UTF-8")
     (folder / "list.csv").write_text(changed(GOOD, [("\n1,", "\nx,"), ("\n20,", "\ny,")]))
-    turned_down("pack", folder, ["pack", "list.csv", "out.list"], "(and 1 more; tools/sheet check lists them all)")
-    done = sheet("check", "--transfers", "list.csv", SMALL, folder=folder)
-    check(done.returncode == 1 and done.stderr.count(b"tools/sheet: list.csv, line ") == 2, "check: a bad list's text",
-          words_of(done))
+    turned_down("pack", folder, ["pack", "list.csv", "out.list"],
+                "(and 1 more; tools/sheet check --transfers LIST MONTH lists them all)")
     for content, message in NO_LIST:
         (folder / "bad.list").write_bytes(content)
         turned_down("unpack", folder, ["unpack", "bad.list", "new.csv"],
@@ -177,14 +198,33 @@ def test_bad(folder):
         (["unpack", "kept.list", "new.toml"], "new.toml: is to be the text of a list, whose name ends in .csv"),
         (["unpack", "kept.list", "list.csv"], "list.csv: exists; --force writes over it"),
         (["explain", "--transfers", "none.list", SMALL], "none.list: cannot be read: No such file"),
-        (["check", "kept.list"], "kept.list: is a list by its name; give it with its month, as --transfers LIST MONTH"),
-        (["explain", "list.csv"], "list.csv: is a list by its name"),
-        (["show", "--transfers", "kept.list", "kept.list"], "kept.list: is a list by its name"),
     ):
         turned_down(" ".join(map(str, words)), folder, words, message)
     (folder / "list.csv").write_text(GOOD)
+    (folder / "link").symlink_to("list.csv")
     turned_down("pack", folder, ["pack", "list.csv", "kept.list"], "kept.list: exists; --force writes over it")
-    turned_down("pack", folder, ["pack", "list.csv", "list.csv", "--force"], "list.csv: is read here")
+    turned_down("pack", folder, ["pack", "list.csv", "link", "--force"], "link: is read here")
+
+
+def test_faults(folder):
+    """check names every fault of every list's text, beside those of a month's; other commands name the first."""
+    (folder / "a.csv").write_text(FAULTY)
+    (folder / "b.CSV").write_text(FAULTY)
+    (folder / "month.toml").write_text(changed(SMALL.read_text(), [('"110.0"', '"x"'), ("month = 12", "month = 13")]))
+    month = ["month: 13 is not a whole number from 1 to 12",
+             'producer 0: attested_capacity: "x" is not a number written plainly, as 100.0',
+             'producer 0: hours: possible: "x" is not a number written plainly, as 100.0']
+    words = ["--transfers", "a.csv", "--transfers", "none.list", "--transfers", "b.CSV", "month.toml"]
+    wanted = [*(f"month.toml: {fault}" for fault in month), *(f"a.csv, {fault}" for fault in ALL_FAULTS),
+              "none.list: cannot be read: No such file or directory", *(f"b.CSV, {fault}" for fault in ALL_FAULTS)]
+    done = sheet("check", *words, folder=folder)
+    check(done.returncode == 1 and not done.stdout
+          and done.stderr.decode().splitlines() == [f"tools/sheet: {line}" for line in wanted],
+          "check: all faults of a month and its lists", words_of(done))
+    for command in ("explain", "show"):
+        turned_down(command, folder, [command, *words], f"tools/sheet: {wanted[0]} (and {len(wanted) - 1} more; "
+                    "tools/sheet check --transfers LIST MONTH lists them all)")
+    turned_down("explain", folder, ["explain", "month.toml"], "(and 2 more; tools/sheet check lists them all)")
 
 
 def test_long(folder):
@@ -218,12 +258,17 @@ def test_shown(folder):
     for name in ("list.csv", "a.list"):
         done = sheet("show", name, folder=folder)
         check(done.stdout.decode() == SHOWN and not done.stderr, f"show: {name}", words_of(done))
-    for content, line in ((b"\0\0\0\0", "The list ends after 4 bytes, before its first entry."),
-                          (GOOD_BYTES[:-1], "The list ends after 18 bytes, inside entry 1."),
-                          (GOOD_BYTES + b"\0", "The list ends after 20 bytes, inside entry 2.")):
-        (folder / "cut.list").write_bytes(content)
-        done = sheet("show", "cut.list", folder=folder)
-        check(done.returncode == 0 and done.stdout.decode().splitlines()[-1] == line, f"show: {line}", words_of(done))
+    for content, words in NO_LIST:
+        (folder / "bad.list").write_bytes(content)
+        done = sheet("show", "bad.list", folder=folder)
+        check(done.returncode == 0 and done.stdout.decode().splitlines()[-1] == f"refusal 13, {words}",
+              f"show: {words}", words_of(done))
+    (folder / "bad.list").write_bytes(GOOD_BYTES[:3] + b"\x14\2" + GOOD_BYTES[5:])
+    done = sheet("show", "bad.list", folder=folder)
+    wanted = changed(SHOWN, [("length              19", "length              20"),
+                             ("version             1", "version             2")])
+    check(done.stdout.decode() == f"{wanted}\nrefusal 13, byte 0: length, 20, but there are 19 bytes\n"
+          "refusal 13, byte 4: version, 2 (not 1)\n", "show: a wrong length and version", words_of(done))
     done = sheet("show", "--transfers", "named.csv", SMALL, folder=folder)
     check(done.returncode == 0 and done.stdout.decode() == SHOWN_NAMED, "show --transfers: a text", words_of(done))
     content = SMALL.with_suffix(".sheet").read_bytes()
@@ -243,6 +288,26 @@ def test_shown(folder):
     done = sheet("show", "--transfers", "empty.list", "-", folder=folder, stdin=nobody)
     check(done.stdout.endswith(b"\n     all     0.0                  0.0\n"), "show --transfers: no consumer",
           words_of(done))
+
+
+def test_other_name(folder):
+    """A list's text whose name does not say so."""
+    hint = "begins as a list's text does, whose name ends in .csv"
+    for content in (GOOD, f"\ufeff{GOOD}", GOOD.replace(",", ";")):
+        (folder / "list.txt").write_text(content)
+        length, count = int.from_bytes(content.encode()[:4], "big"), len(content.encode())
+        line = f"list.txt, byte 0: length, {length}, but there are {count} bytes; it {hint}"
+        for command in ("explain", "check"):
+            done = sheet(command, "--transfers", "list.txt", SMALL, folder=folder)
+            check(done.stdout.decode().splitlines()[1].strip() == line, f"{command}: a list's text named list.txt",
+                  words_of(done))
+        turned_down("pack", folder, ["pack", "list.txt", "out.list"], f"tools/sheet: list.txt: {hint}")
+    (folder / "month.txt").write_text("days = 28\nweekday = 1\nholidays = []\n")
+    done = sheet("pack", "month.txt", "-", folder=folder)
+    check(done.returncode == 0 and len(done.stdout) == records.HEADER, "pack: a month's text named month.txt",
+          words_of(done))
+    done = run(SHEET, "pack", "/dev/stdin", "-", stdin=SMALL.read_bytes())
+    check(done.stdout == SMALL.with_suffix(".sheet").read_bytes(), "pack: a month's text from a pipe", words_of(done))
 
 
 def test_explained(folder):
@@ -291,12 +356,20 @@ def test_check(folder):
           words_of(done))
     (folder / "good.csv").write_text(NAMED)
     done = sheet("check", "--transfers", "good.csv", SMALL, folder=folder)
-    check(done.returncode == 0 and done.stdout.startswith(b"accepted\n") and b"far above its contract volume: 57.5 MW "
-          b"and 4.5 MW" not in done.stdout, "check --transfers: accepted", words_of(done))
+    check(done.returncode == 0 and done.stdout.decode() == ALL_GOOD and not done.stderr, "check --transfers: accepted",
+          words_of(done))
     (folder / "all.csv").write_text("day,giver,taker,amount\n1,31,30,75.0\n")
     done = sheet("check", "--transfers", "all.csv", EXAMPLES / "month.sheet", folder=folder)
     check(done.returncode == 0 and b"  consumer 31: no row names it, and its peak is far above its contract volume: "
           b"51.3 MW and 0.0 MW\n" in done.stdout, "check --transfers: unlikely after the list", words_of(done))
+    (folder / "late.csv").write_text("day,giver,taker,amount\n21,0,1,1.0\n")
+    for words in (["--transfers", "all.csv", "--transfers", "late.csv"], ["--transfers", "late.csv"]):
+        done = sheet("check", *words, EXAMPLES / "month.sheet", folder=folder)
+        refused = f"refusal 14: {refusals.RULES[14]}\n  late.csv, line 2: entry 0, day filed, 21 (at most 20)"
+        wanted = changed(sheet("check", EXAMPLES / "month.sheet").stdout.decode(), [("accepted", refused)])
+        check(done.returncode == 1 and done.stdout.decode() == wanted,
+              f"check {words}: after a refusal, what is unlikely in the month as it stands", words_of(done))
+    check_twice(folder)
     (folder / "bad.list").write_bytes(GOOD_BYTES[:-1])
     done = sheet("check", "--transfers", "good.csv", "--transfers", "bad.list", EXAMPLES / "refused-10.sheet",
                  folder=folder)
@@ -307,6 +380,27 @@ def test_check(folder):
     done = sheet("check", "--transfers", "good.csv", EXAMPLES / "refused-2.sheet", folder=folder)
     check(done.returncode == 1 and done.stdout.endswith(b"nothing after the header was looked at, and no list\n"),
           "check --transfers: no places", words_of(done))
+
+
+def check_twice(folder):
+    """The same list twice is unlikely, under one name or two, applied or refused; two lists without entries are not."""
+    (folder / "one.csv").write_text("day,giver,taker,amount\n1,0,1,60.0\n")
+    (folder / "half.csv").write_text("day,giver,taker,amount\n1,0,1,20.0\n")
+    for name in ("none.csv", "no.csv"):
+        (folder / name).write_text("day,giver,taker,amount\n")
+    sheet("pack", "half.csv", "half.list", folder=folder)
+    for names_given, status, line in (
+        (["half.csv", "half.list"], 0, "  the same list is given 2 times: half.csv, half.list\n"),
+        (["half.csv", "none.csv", "half.csv", "half.csv"], 0,
+         "  the same list is given 3 times: half.csv, half.csv, half.csv\n"),
+        (["one.csv", "one.csv"], 1, "  the same list is given 2 times: one.csv, one.csv\n"),
+        (["half.csv", "none.csv", "no.csv"], 0, ""),
+    ):
+        words = [word for name in names_given for word in ("--transfers", name)]
+        done = sheet("check", *words, SMALL, folder=folder)
+        said = done.stdout.decode()
+        check(done.returncode == status and said.endswith(line) and said.count("the same list") == bool(line),
+              f"check: {names_given}", words_of(done))
 
 
 # ------------------------------------------------------------------ drawn lists
@@ -349,29 +443,28 @@ def drawn_list(rng, volumes):
                        struct.pack(">I", len(content) + 7) + content[4:]))
 
 
+class Case(NamedTuple):
+    sheet: bytes
+    list: bytes
+
+    def to_bytes(self):
+        return programs.list_case_bytes(self.sheet, self.list)
+
+
 def draw():
-    """Sheets and lists with the rival's answers: the sheet afterwards, or a number."""
+    """Sheets, each with a list."""
     rng, cases = random.Random(SEED), []
     for _ in range(DRAWN):
         content = drawn_sheet(rng)
         volumes = [consumer.contract for consumer in records.Sheet.from_bytes(content).consumers]
-        cases.append((content, drawn_list(rng, volumes)))
+        cases.append(Case(content, drawn_list(rng, volumes)))
     return cases
 
 
-def rival_answers(cases, folder):
-    asked, answered = Path(folder) / "cases", Path(folder) / "answers"
-    asked.write_bytes(b"".join(struct.pack(">2I", len(content), len(packed)) + content + packed
-                               for content, packed in cases))
-    done = run(programs.RIVAL, "transfers", asked, answered)
-    check(done.returncode == 0, "the rival's transfers", words_of(done))
-    return programs.read_answers(answered, len(cases))
-
-
-def first_of(content, packed):
+def first_of(case):
     """The first refusal that the aid finds, and the contract volumes after the list."""
-    given = inputs.Given("sheet", content, names.NO_NAMES, "", [], False)
-    found, volumes = transfers.judged(given, [GivenList("list", packed, False)])
+    given = inputs.Given("sheet", case.sheet, names.NO_NAMES, "", [], False)
+    found, volumes = transfers.judged(given, [GivenList("list", case.list, False)])
     return found[0] if found else None, volumes
 
 
@@ -379,19 +472,19 @@ def test_drawn(folder):
     """explain has the rival's number, and the volumes after an applied list; every list that can be unpacked comes
     back from its text."""
     cases, found = draw(), {}
-    answers = rival_answers(cases, folder)
-    for place, ((content, packed), answer) in enumerate(zip(cases, answers)):
-        first, volumes = first_of(content, packed)
+    answers = programs.rival_answers(cases, folder, "transfers")
+    for place, (case, answer) in enumerate(zip(cases, answers)):
+        first, volumes = first_of(case)
         number, rival = first.number if first else 0, answer if isinstance(answer, int) else 0
         found[rival] = found.get(rival, 0) + 1
         check(number == rival, f"explain: drawn list {place}: {number}, the rival has {rival} (0: applied)")
         if not rival:
             after = [consumer.contract for consumer in records.Sheet.from_bytes(answer).consumers]
             check(volumes == after, f"show: drawn list {place}: the volumes after it")
-        if transfers.entries_known(packed) and packed[4] == transfers.VERSION:
+        if transfers.entries_known(case.list) and case.list[4] == transfers.VERSION:
             text = folder / "list.csv"
-            text.write_bytes(transfers.text_files("list", packed, str(text))[str(text)])
-            check(transfers.read_text(text) == packed, f"pack after unpack: drawn list {place}")
+            text.write_bytes(transfers.text_files("list", case.list, str(text))[str(text)])
+            check(transfers.read_text(text) == case.list, f"pack after unpack: drawn list {place}")
         else:
             check(rival, f"unpack: drawn list {place}: turned down, though the rival applies it")
     check(set(found) == {0, 2, 9, *refusals.TRIED_IN_LIST} and min(found.values()) >= 10,
@@ -402,21 +495,21 @@ def test_drawn(folder):
 def check_places(cases, answers, folder):
     """The field that explain names is the one: when it is repaired, what is named next stands behind it."""
     repaired = []
-    for (content, packed), answer in zip(cases, answers):
-        if answer not in refusals.TRIED_IN_LIST or not transfers.entries_known(packed) or content[13] < 2:
+    for case, answer in zip(cases, answers):
+        if answer not in refusals.TRIED_IN_LIST or not transfers.entries_known(case.list) or case.sheet[13] < 2:
             continue
-        packed, last = bytearray(packed), (0, 0)
+        packed, last = bytearray(case.list), (0, 0)
         packed[4] = transfers.VERSION
-        while (first := first_of(content, bytes(packed))[0]) is not None:
+        while (first := first_of(case._replace(list=bytes(packed)))[0]) is not None:
             turn = refusals.turn(first.number), first.place
             check(turn > last, f"explain: byte {first.place} after {last}")
             if turn <= last:
                 break
             last = turn
             repair(packed, first)
-        repaired.append((content, bytes(packed)))
+        repaired.append(case._replace(list=bytes(packed)))
     check(len(repaired) >= 50, f"explain: only {len(repaired)} lists were repaired")
-    for answer in rival_answers(repaired, folder):
+    for answer in programs.rival_answers(repaired, folder, "transfers"):
         check(isinstance(answer, bytes), f"explain: a repaired list, but the rival refuses it by {answer}")
 
 
