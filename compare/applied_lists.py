@@ -6,8 +6,8 @@ from functools import wraps
 
 from accepted import LARGEST
 from drawing import draw_sheet
-from lists import LAST_DAY_TO_FILE, Transfer, TransferList
 from records import MOST_CONSUMERS, TOP_CAPACITY
+from transfer_lists import LAST_DAY_TO_FILE, Transfer, TransferList
 
 # ------------------------------------------------------------------ sheets
 

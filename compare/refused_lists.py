@@ -9,9 +9,9 @@ from itertools import combinations
 import refused
 from applied_lists import Turns, filing_day, sheet_of, sheet_with, some_entries, some_sheet, volumes_of
 from drawing import capacity
-from lists import BAD_LIST, FILED_LATE, LAST_DAY, LAST_DAY_TO_FILE, OVERDRAWN, Transfer, TransferList
 from records import MOST_CONSUMERS, TOP_CAPACITY, Sheet
 from refusals import BUFFER_NUMBER, TRIED
+from transfer_lists import BAD_LIST, FILED_LATE, LAST_DAY, LAST_DAY_TO_FILE, OVERDRAWN, Transfer, TransferList
 
 LARGEST_4 = 2 ** 32 - 1
 OF_SHEET = tuple(number for number in TRIED if number != BUFFER_NUMBER)

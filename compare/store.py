@@ -18,9 +18,9 @@ from pathlib import Path
 
 sys.dont_write_bytecode = True
 
+import list_cases
 import programs
 import sheets
-import transfers
 from bands import EDGES
 from programs import Trouble
 
@@ -106,7 +106,7 @@ def stored_cases(group):
 
 
 def stored_lists():
-    return [draw_stored(transfers.draw_case, f"{SEED}/transfers/{kind}", SHORT_PAIR, *kind.split("/"))
+    return [draw_stored(list_cases.draw_case, f"{SEED}/transfers/{kind}", SHORT_PAIR, *kind.split("/"))
             for kind in LISTS]
 
 
@@ -152,7 +152,7 @@ def answered_sheets(group, folder):
 def answered_lists(folder):
     cases = stored_lists()
     answers = programs.rival_answers(cases, folder, "transfers")
-    check_intended(cases, answers, transfers.intended_refusal)
+    check_intended(cases, answers, list_cases.intended_refusal)
     return list(map(stored_list_bytes, cases, answers))
 
 

@@ -3,14 +3,14 @@
 Of every list that is applied, beside what ListRun checks: the sheet is accepted before and after, with the same room.
 And of pairs of sheets as in demand 3: one list gets the same answer from both, and demand 3 holds of them afterwards.
 """
+import list_cases
 import sheets
-import transfers
 from coverage import Coverage
 from demand_3 import check_pairs, moved_in
-from lists import contract_volumes
 from records import result_length
 from refused_lists import OF_SHEET
 from running import CHUNK, ListRun, SheetRun, answer_text
+from transfer_lists import contract_volumes
 
 MARKS = {
     "refusals of the sheet": [f"N{number}" for number in OF_SHEET],
@@ -41,9 +41,9 @@ def settle_applied(run, start, cases, answers):
 
 
 def compare_lists(run, settling, count):
-    coverage, applied = Coverage(MARKS, transfers.GROUPS), 0
+    coverage, applied = Coverage(MARKS, list_cases.GROUPS), 0
     for start in range(0, count, CHUNK):
-        cases = list(transfers.cases(run.seed, min(CHUNK, count - start), start))
+        cases = list(list_cases.cases(run.seed, min(CHUNK, count - start), start))
         answers, marks = run.answers(start, cases)
         coverage.add(cases, marks)
         applied += settle_applied(settling, 2 * applied, cases, answers)
@@ -86,8 +86,8 @@ def compare_pairs(run, settling, count):
     """Applies one list to two sheets and checks demand 3 afterwards. Gives how many pairs had a figure that moved."""
     moved = 0
     for start in range(0, count, CHUNK):
-        pairs = transfers.pairs(run.seed, min(CHUNK, count - start), start)
-        cases = [transfers.ListCase(pair.kind, sheet, pair.list)
+        pairs = list_cases.pairs(run.seed, min(CHUNK, count - start), start)
+        cases = [list_cases.ListCase(pair.kind, sheet, pair.list)
                  for pair in pairs for sheet in (pair.first, pair.second)]
         answers, _ = run.answers(2 * start, cases)
         check_same_answer(run, 2 * start, cases, answers)
