@@ -6,8 +6,9 @@ from functools import wraps
 
 from accepted import LARGEST
 from drawing import draw_sheet
-from records import MOST_CONSUMERS, TOP_CAPACITY
-from transfer_lists import LAST_DAY_TO_FILE, Transfer, TransferList
+from records import MOST_CONSUMERS, TOP_CAPACITY, Transfer
+from refusals import LAST_FILING_DAY
+from transfer_lists import TransferList
 
 # ------------------------------------------------------------------ sheets
 
@@ -54,7 +55,7 @@ def volumes_of(sheet):
 
 
 def filing_day(rng):
-    return rng.choice((1, LAST_DAY_TO_FILE, rng.randrange(1, LAST_DAY_TO_FILE + 1)))
+    return rng.choice((1, LAST_FILING_DAY, rng.randrange(1, LAST_FILING_DAY + 1)))
 
 
 class Turns:
@@ -246,7 +247,7 @@ def more_than_65535_bytes(rng):
 APPLIED = {
     "no_entries": no_entries, "one_entry": so_many_entries(1, 1), "two_entries": so_many_entries(2, 2),
     "some_entries": so_many_entries(3, 12), "many_entries": so_many_entries(50, 200),
-    "day_1": filed_on(1), "day_20": filed_on(LAST_DAY_TO_FILE),
+    "day_1": filed_on(1), "day_20": filed_on(LAST_FILING_DAY),
 }
 APPLIED.update((corner.__name__, corner) for corner in (
     nothing_moved, all_given, taker_filled, all_given_and_taker_filled, given_on, given_after_taking,

@@ -9,13 +9,12 @@ from itertools import combinations
 import refused
 from applied_lists import Turns, filing_day, sheet_of, sheet_with, some_entries, some_sheet, volumes_of
 from drawing import capacity
-from records import MOST_CONSUMERS, TOP_CAPACITY, Sheet
-from refusals import BUFFER_NUMBER, TRIED
-from transfer_lists import BAD_LIST, FILED_LATE, LAST_DAY, LAST_DAY_TO_FILE, OVERDRAWN, Transfer, TransferList
+from records import ENTRY, FRONT, MOST_CONSUMERS, TOP_CAPACITY, Sheet, Transfer
+from refusals import BAD_LIST, BUFFER_NUMBER, FILED_LATE, LAST_DAY, LAST_FILING_DAY, OVERDRAWN, TRIED, TRIED_IN_LIST
+from refused import LARGEST_4
+from transfer_lists import TransferList
 
-LARGEST_4 = 2 ** 32 - 1
 OF_SHEET = tuple(number for number in TRIED if number != BUFFER_NUMBER)
-OF_LIST = (BAD_LIST, FILED_LATE, OVERDRAWN)
 
 # ------------------------------------------------------------------ 13: the list's form
 
@@ -41,7 +40,7 @@ def bytes_lost(rng, volumes):
     """Some bytes or a whole entry, of which the length field still speaks."""
     drawn = some_entries(rng, volumes).list()
     drawn.stated_length = len(drawn.to_bytes())
-    drawn.lost = min(rng.choice((1, 7, rng.randrange(1, 8))), drawn.stated_length - 5)
+    drawn.lost = min(rng.choice((1, ENTRY, rng.randrange(1, ENTRY + 1))), drawn.stated_length - FRONT)
     return drawn if drawn.lost else short_list(4)(rng, volumes)
 
 
@@ -103,12 +102,12 @@ def one_consumer_twice(rng, volumes):
 FAULTS_13 = {
     "no_bytes": short_list(0), "one_byte": short_list(1), "four_bytes": short_list(4),
     "length_one_more": length_stated(lambda true: true + 1), "length_one_less": length_stated(lambda true: true - 1),
-    "length_an_entry_more": length_stated(lambda true: true + 7), "length_nought": length_stated(lambda true: 0),
+    "length_an_entry_more": length_stated(lambda true: true + ENTRY), "length_nought": length_stated(lambda true: 0),
     "length_all_ones": length_stated(lambda true: LARGEST_4),
     "length_65536_more": length_stated(lambda true: true + 65536),
     "length_lowest_byte_first": length_stated(refused.backwards),
     "bytes_lost": bytes_lost, "bytes_added": bytes_added,
-    **{f"{count}_bytes_of_an_entry": part_of_an_entry(count) for count in range(1, 7)},
+    **{f"{count}_bytes_of_an_entry": part_of_an_entry(count) for count in range(1, ENTRY)},
     **{f"version_{version}": list_version(version) for version in (0, 2, 255)},
     **{f"day_{day}": entry_put(entry_with(day=day)) for day in (0, LAST_DAY + 1, 255)},
     "giver_next": entry_put(past_the_last("giver")), "giver_255": entry_put(entry_with(giver=255)),
@@ -120,7 +119,7 @@ FAULTS_13 = {
 
 
 def some_late_day(rng):
-    return rng.randrange(LAST_DAY_TO_FILE + 1, LAST_DAY + 1)
+    return rng.randrange(LAST_FILING_DAY + 1, LAST_DAY + 1)
 
 
 def late_entry(rng, volumes):
@@ -133,9 +132,9 @@ def all_late(rng, volumes):
 
 
 FAULTS_14 = {
-    "day_21": entry_put(entry_with(day=LAST_DAY_TO_FILE + 1)), "day_31": entry_put(entry_with(day=LAST_DAY)),
+    "day_21": entry_put(entry_with(day=LAST_FILING_DAY + 1)), "day_31": entry_put(entry_with(day=LAST_DAY)),
     "some_day": entry_put(late_entry), "all_late": all_late,
-    "nothing_moved": entry_put(entry_with(day=LAST_DAY_TO_FILE + 1, amount=0)),
+    "nothing_moved": entry_put(entry_with(day=LAST_FILING_DAY + 1, amount=0)),
 }
 
 # ------------------------------------------------------------------ 15: overdrawn at its turn
@@ -306,8 +305,8 @@ def list_with_both(first, later):
     return draw
 
 
-SEVERAL_RULES = {f"{first}_and_{later}": sheet_and_list(first, later) for first in OF_SHEET for later in OF_LIST}
-for one, other in combinations(OF_LIST, 2):
+SEVERAL_RULES = {f"{first}_and_{later}": sheet_and_list(first, later) for first in OF_SHEET for later in TRIED_IN_LIST}
+for one, other in combinations(TRIED_IN_LIST, 2):
     SEVERAL_RULES[f"{one}_and_{other}"] = list_with_both(one, other)
 
 # ------------------------------------------------------------------ damaged lists and sheets
@@ -323,7 +322,7 @@ def one_bit_changed(rng, content):
 
 def any_entries(rng, content):
     """A true front, and any bytes after it."""
-    count = 7 * rng.randrange(1, 20)
+    count = ENTRY * rng.randrange(1, 20)
     content[:] = TransferList([], surplus=rng.getrandbits(8 * count).to_bytes(count, "big")).to_bytes()
 
 

@@ -388,7 +388,7 @@ def test_drawn(folder):
         if not rival:
             after = [consumer.contract for consumer in records.Sheet.from_bytes(answer).consumers]
             check(volumes == after, f"show: drawn list {place}: the volumes after it")
-        if transfers.entries_known(packed) and packed[4] == transfers.VERSION:
+        if transfers.entries_known(packed) and packed[4] == records.LIST_VERSION:
             text = folder / "list.csv"
             text.write_bytes(transfers.text_files("list", packed, str(text))[str(text)])
             check(transfers.read_text(text) == packed, f"pack after unpack: drawn list {place}")
@@ -406,7 +406,7 @@ def check_places(cases, answers, folder):
         if answer not in refusals.TRIED_IN_LIST or not transfers.entries_known(packed) or content[13] < 2:
             continue
         packed, last = bytearray(packed), (0, 0)
-        packed[4] = transfers.VERSION
+        packed[4] = records.LIST_VERSION
         while (first := first_of(content, bytes(packed))[0]) is not None:
             turn = refusals.turn(first.number), first.place
             check(turn > last, f"explain: byte {first.place} after {last}")
