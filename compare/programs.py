@@ -127,6 +127,18 @@ def read_answers(path, count):
     return answers
 
 
+def stored_lists(content):
+    """Each stored sheet, its list, and the answer: the sheet afterwards, or the refusal's number."""
+    place = 0
+    while place < len(content):
+        length, listed, refused, number = struct.unpack_from(">2IBI", content, place)
+        place += 13
+        sheet, packed = content[place:place + length], content[place + length:place + length + listed]
+        place += length + listed
+        yield sheet, packed, number if refused else content[place:place + length]
+        place += length
+
+
 def rival_answers(cases, folder, command="batch"):
     """The rival's answers to cases, with files in a folder."""
     asked, answered = Path(folder) / "cases", Path(folder) / "rival"
