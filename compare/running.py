@@ -94,6 +94,12 @@ class Run:
                           f"sheet: {sheet} ({len(case.sheet)} bytes)\n{self.beside(saved, case)}\n"
                           f"both as a case: {whole}\n{words}")
 
+    def report_pair(self, index, first, second, words):
+        """The same of two cases that follow each other."""
+        self.report(index, first, "")
+        return self.report(index + 1, second, f"{words}\nthe sheet named is the second of the pair; "
+                                              f"the first was saved with the number before it")
+
 
 class SheetRun(Run):
     answer_command, marks_command = "batch", "marks"

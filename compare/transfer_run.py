@@ -74,12 +74,9 @@ def check_same_answer(run, start, cases, answers):
         if isinstance(first, bytes) and isinstance(second, bytes):
             first, second = contract_volumes(first), contract_volumes(second)
         if first != second:
-            run.report(start + place, cases[place], "")
             told = " and ".join(answer_text(answer) for answer in answers[place:place + 2])
-            raise run.report(start + place + 1, cases[place + 1],
-                             f"one list for two sheets as in demand 3, but answers or contract volumes differ: {told}\n"
-                             f"the sheet named is the second of the pair; "
-                             f"the first was saved with the number before it")
+            words = f"one list, two sheets as in demand 3, but answers or contract volumes differ: {told}"
+            raise run.report_pair(start + place, *cases[place:place + 2], words)
 
 
 def compare_pairs(run, settling, count):
