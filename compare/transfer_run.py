@@ -80,8 +80,11 @@ def check_same_answer(run, start, cases, answers):
 
 
 def compare_pairs(run, settling, count):
-    """Applies one list to two sheets and checks demand 3 afterwards. Gives how many pairs had a figure that moved."""
-    moved = 0
+    """Applies one list to two sheets and checks demand 3 afterwards.
+
+    Gives how many pairs had a figure that moved, and in how many the list changed contract volumes.
+    """
+    moved = changed = 0
     for start in range(0, count, CHUNK):
         pairs = list_cases.pairs(run.seed, min(CHUNK, count - start), start)
         cases = [list_cases.ListCase(pair.kind, sheet, pair.list)
@@ -91,7 +94,15 @@ def compare_pairs(run, settling, count):
         settled = [exact_case(case.kind, sheet_after(case, answer)) for case, answer in zip(cases, answers)]
         results, _ = settling.answers(2 * start, settled)
         moved += check_pairs(settling, 2 * start, settled, results)
-    return moved
+        # Of a pair one sheet will do: both have the same contract volumes, before the list and after it.
+        changed += sum(before.sheet != after.sheet for before, after in zip(cases[::2], settled[::2]))
+    return moved, changed
+
+
+def changed_in(changed, count):
+    """As moved_in, of the contract volumes."""
+    print(f"in {changed} of these pairs the list changed contract volumes")
+    return "in less than half of the pairs with a list it changed contract volumes" if 2 * changed < count else ""
 
 
 # ------------------------------------------------------------------ both
@@ -105,5 +116,6 @@ def compare_transfers(options, folder):
     failed = coverage.failure(options.lists, "lists")
     if failed:
         return failed
-    moved = compare_pairs(ListRun("pair-list", *where), SheetRun("pair-list-sheet", *where), options.list_pairs)
-    return moved_in(moved, options.list_pairs, "pairs with a list")
+    count = options.list_pairs
+    moved, changed = compare_pairs(ListRun("pair-list", *where), SheetRun("pair-list-sheet", *where), count)
+    return moved_in(moved, count, "pairs with a list") or changed_in(changed, count)
