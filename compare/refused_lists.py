@@ -4,7 +4,6 @@ once; damaged lists and sheets.
 A corner draws a sheet and a list; either may be bytes, where it is damaged.
 """
 from functools import wraps
-from itertools import combinations
 
 import refused
 from applied_lists import Turns, filing_day, sheet_of, sheet_with, some_entries, some_sheet, volumes_of
@@ -286,28 +285,50 @@ def sheet_and_list(number, later):
     return draw
 
 
-FAULTY_ENTRIES = {
-    BAD_LIST: (entry_with(day=0), entry_with(day=LAST_DAY + 1), past_the_last("giver"), past_the_last("taker"),
-               one_consumer_twice),
-    FILED_LATE: (late_entry,),
-    OVERDRAWN: (entry_with(amount=TOP_CAPACITY + 1),),
+def entry_behind(draw_entry):
+    def put(rng, volumes, drawn):
+        drawn.transfers.append(draw_entry(rng, volumes))
+    return put
+
+
+def length_of_an_entry_more(rng, volumes, drawn):
+    drawn.stated_length = len(drawn.to_bytes()) + ENTRY
+
+
+def part_of_an_entry_more(rng, volumes, drawn):
+    drawn.surplus = bytes(3)
+
+
+def version_2(rng, volumes, drawn):
+    drawn.version = 2
+
+
+# Each cause of 13 but too few bytes, to be put into a list behind an entry whose number is tried later.
+CAUSES_13 = {
+    "length": length_of_an_entry_more, "multiple": part_of_an_entry_more, "version": version_2,
+    "day_0": entry_behind(entry_with(day=0)), "day_32": entry_behind(entry_with(day=LAST_DAY + 1)),
+    "giver": entry_behind(past_the_last("giver")), "taker": entry_behind(past_the_last("taker")),
+    "twice": entry_behind(one_consumer_twice),
 }
+LATER_ENTRIES = {FILED_LATE: late_entry, OVERDRAWN: entry_with(amount=TOP_CAPACITY + 1)}
 
 
-def list_with_both(first, later):
+def list_with_both(put_cause, later):
     """The entry whose number is tried later stands in front."""
     def draw(rng):
         sheet = some_sheet(rng)
         volumes = volumes_of(sheet)
-        front, back = (rng.choice(FAULTY_ENTRIES[number])(rng, volumes) for number in (later, first))
         between = [usual_entry(rng, volumes) for _ in range(rng.choice((0, 0, 1, 4)))]
-        return sheet, TransferList([front] + between + [back])
+        drawn = TransferList([LATER_ENTRIES[later](rng, volumes)] + between)
+        put_cause(rng, volumes, drawn)
+        return sheet, drawn
     return draw
 
 
 SEVERAL_RULES = {f"{first}_and_{later}": sheet_and_list(first, later) for first in OF_SHEET for later in TRIED_IN_LIST}
-for one, other in combinations(TRIED_IN_LIST, 2):
-    SEVERAL_RULES[f"{one}_and_{other}"] = list_with_both(one, other)
+SEVERAL_RULES.update((f"{BAD_LIST}_{name}_and_{later}", list_with_both(put_cause, later))
+                     for name, put_cause in CAUSES_13.items() for later in LATER_ENTRIES)
+SEVERAL_RULES[f"{FILED_LATE}_and_{OVERDRAWN}"] = list_with_both(entry_behind(late_entry), OVERDRAWN)
 
 # ------------------------------------------------------------------ damaged lists and sheets
 

@@ -77,7 +77,7 @@ LISTS = (
     "list_13/four_bytes", "list_13/length_one_more", "list_13/6_bytes_of_an_entry", "list_13/version_2",
     "list_13/day_0", "list_13/day_32", "list_13/giver_next", "list_13/taker_next", "list_13/one_consumer_twice",
     "list_14/day_21", "list_15/one_more_than_the_giver_has", "list_15/taker_one_above", "list_15/emptied_before",
-    "several_rules/12_and_13", "several_rules/13_and_14", "several_rules/14_and_15",
+    "several_rules/12_and_13", "several_rules/13_version_and_14", "several_rules/14_and_15",
 )
 
 
