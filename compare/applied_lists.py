@@ -234,14 +234,16 @@ def in_the_largest_sheet(rng):
 
 
 def more_than_65535_bytes(rng):
-    """Back and forth, so often that two bytes do not hold the list's length."""
+    """Back and forth, so often that two bytes do not hold the list's length. As a rule the last entries leave a change."""
     sheet = some_sheet(rng)
     turns = Turns(rng, volumes_of(sheet))
-    giver, taker = rng.sample(range(len(sheet.consumers)), 2)
+    giver, taker = turns.two()
     amount = turns.most(giver, taker)
     turns.add(giver, taker, amount)
     turns.add(taker, giver, amount)
-    return sheet, TransferList(turns.transfers * rng.randrange(4681, 4700))
+    turns.transfers *= rng.randrange(4681, 4700)
+    turns.add_some(5)
+    return sheet, turns.list()
 
 
 APPLIED = {
