@@ -234,7 +234,7 @@ def in_the_largest_sheet(rng):
 
 
 def more_than_65535_bytes(rng):
-    """Back and forth, so often that two bytes do not hold the list's length. As a rule the last entries leave a change."""
+    """Back and forth, so often that two bytes do not hold the list's length; as a rule, a change at the end."""
     sheet = some_sheet(rng)
     turns = Turns(rng, volumes_of(sheet))
     giver, taker = turns.two()

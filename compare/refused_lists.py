@@ -76,6 +76,13 @@ def entry_put(draw_entry):
     return fault
 
 
+def behind_many(draw_entry):
+    """An entry that breaks a rule, behind more than 256 that do not."""
+    def fault(rng, volumes):
+        return TransferList(some_entries(rng, volumes, least=257, most=300).transfers + [draw_entry(rng, volumes)])
+    return fault
+
+
 def usual_entry(rng, volumes):
     """An entry that breaks no rule of 13 or 14."""
     giver, taker = rng.sample(range(max(2, len(volumes))), 2)
@@ -111,7 +118,7 @@ FAULTS_13 = {
     **{f"day_{day}": entry_put(entry_with(day=day)) for day in (0, LAST_DAY + 1, 255)},
     "giver_next": entry_put(past_the_last("giver")), "giver_255": entry_put(entry_with(giver=255)),
     "taker_next": entry_put(past_the_last("taker")), "taker_255": entry_put(entry_with(taker=255)),
-    "one_consumer_twice": entry_put(one_consumer_twice),
+    "one_consumer_twice": entry_put(one_consumer_twice), "behind_many": behind_many(past_the_last("taker")),
 }
 
 # ------------------------------------------------------------------ 14: filed late
@@ -132,7 +139,7 @@ def all_late(rng, volumes):
 
 FAULTS_14 = {
     "day_21": entry_put(entry_with(day=LAST_FILING_DAY + 1)), "day_31": entry_put(entry_with(day=LAST_DAY)),
-    "some_day": entry_put(late_entry), "all_late": all_late,
+    "some_day": entry_put(late_entry), "all_late": all_late, "behind_many": behind_many(late_entry),
     "nothing_moved": entry_put(entry_with(day=LAST_FILING_DAY + 1, amount=0)),
 }
 
@@ -158,6 +165,7 @@ FAULTS_15 = {
     "highest_bit": overdrawn(lambda rng, giver, taker: 2 ** 31),
     # The taker's volume with the amount is 2^32 or a little more, which four bytes do not hold.
     "past_four_bytes": overdrawn(lambda rng, giver, taker: min(LARGEST_4, 2 ** 32 - taker + rng.randrange(3))),
+    "behind_many": behind_many(entry_with(amount=TOP_CAPACITY + 1)),
 }
 
 
