@@ -285,11 +285,11 @@ def good_list(draw_sheet):
     return draw
 
 
-def sheet_and_list(number, later):
+def sheet_and_list(number, faults):
     """A sheet that is turned down, with a list that would be."""
     def draw(rng):
         sheet = rng.choice(list(refused.REFUSALS[number].values()))(rng)
-        return sheet, rng.choice(list(FAULTS[later].values()))(rng, volumes_known(sheet))
+        return sheet, rng.choice(list(faults))(rng, volumes_known(sheet))
     return draw
 
 
@@ -333,7 +333,11 @@ def list_with_both(put_cause, later):
     return draw
 
 
-SEVERAL_RULES = {f"{first}_and_{later}": sheet_and_list(first, later) for first in OF_SHEET for later in TRIED_IN_LIST}
+SEVERAL_RULES = {f"{first}_and_{later}": sheet_and_list(first, FAULTS[later].values())
+                 for first in OF_SHEET for later in TRIED_IN_LIST}
+# Each cause of 13 with the last of the sheet's numbers: whatever is tried before that one is found out.
+SEVERAL_RULES.update((f"{OF_SHEET[-1]}_and_{BAD_LIST}_{name}", sheet_and_list(OF_SHEET[-1], [fault]))
+                     for name, fault in FAULTS_13.items())
 SEVERAL_RULES.update((f"{BAD_LIST}_{name}_and_{later}", list_with_both(put_cause, later))
                      for name, put_cause in CAUSES_13.items() for later in LATER_ENTRIES)
 SEVERAL_RULES[f"{FILED_LATE}_and_{OVERDRAWN}"] = list_with_both(entry_behind(late_entry), OVERDRAWN)
