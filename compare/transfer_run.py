@@ -15,9 +15,9 @@ from transfer_lists import contract_volumes
 MARKS = {
     "refusals of the sheet": [f"N{number}" for number in OF_SHEET],
     "13": ["N13"] + [f"13{cause}" for cause in (
-        "short", "length", "multiple", "version", "day0", "dayabove", "giver", "taker", "same", "behind14")],
+        "short", "length", "multiple", "version", "day0", "dayabove", "giver", "taker", "same", "with14")],
     "14": ["N14", "day21", "day31"],
-    "15": ["N15"] + [f"15{cause}" for cause in ("giver", "taker", "late", "first", "hundredthousandandone")],
+    "15": ["N15"] + [f"15{cause}" for cause in ("giver", "taker", "turn", "first", "oneabove")],
     "applied": ["done", "entries0", "entries1", "entriesmany", "day1", "day20", "amount0", "takerfull", "giverempty",
                 "chain", "repeated"],
 }
