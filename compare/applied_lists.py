@@ -6,8 +6,9 @@ from functools import wraps
 
 from accepted import LARGEST
 from drawing import draw_sheet
-from lists import LAST_DAY_TO_FILE, Transfer, TransferList
-from records import MOST_CONSUMERS, TOP_CAPACITY
+from records import MOST_CONSUMERS, TOP_CAPACITY, Transfer
+from refusals import LAST_FILING_DAY
+from transfer_lists import TransferList
 
 # ------------------------------------------------------------------ sheets
 
@@ -54,7 +55,7 @@ def volumes_of(sheet):
 
 
 def filing_day(rng):
-    return rng.choice((1, LAST_DAY_TO_FILE, rng.randrange(1, LAST_DAY_TO_FILE + 1)))
+    return rng.choice((1, LAST_FILING_DAY, rng.randrange(1, LAST_FILING_DAY + 1)))
 
 
 class Turns:
@@ -233,20 +234,22 @@ def in_the_largest_sheet(rng):
 
 
 def more_than_65535_bytes(rng):
-    """Back and forth, so often that two bytes do not hold the list's length."""
+    """Back and forth, so often that two bytes do not hold the list's length; as a rule, a change at the end."""
     sheet = some_sheet(rng)
     turns = Turns(rng, volumes_of(sheet))
-    giver, taker = rng.sample(range(len(sheet.consumers)), 2)
+    giver, taker = turns.two()
     amount = turns.most(giver, taker)
     turns.add(giver, taker, amount)
     turns.add(taker, giver, amount)
-    return sheet, TransferList(turns.transfers * rng.randrange(4681, 4700))
+    turns.transfers *= rng.randrange(4681, 4700)
+    turns.add_some(5)
+    return sheet, turns.list()
 
 
 APPLIED = {
     "no_entries": no_entries, "one_entry": so_many_entries(1, 1), "two_entries": so_many_entries(2, 2),
     "some_entries": so_many_entries(3, 12), "many_entries": so_many_entries(50, 200),
-    "day_1": filed_on(1), "day_20": filed_on(LAST_DAY_TO_FILE),
+    "day_1": filed_on(1), "day_20": filed_on(LAST_FILING_DAY),
 }
 APPLIED.update((corner.__name__, corner) for corner in (
     nothing_moved, all_given, taker_filled, all_given_and_taker_filled, given_on, given_after_taking,

@@ -38,10 +38,7 @@ def check_pairs(run, start, cases, answers):
         moved += first != second
         wrong = against_demand_3(first, second)
         if wrong:
-            run.report(start + place, cases[place], "")
-            raise run.report(start + place + 1, cases[place + 1],
-                             f"demand 3: {wrong}\nthe sheet named is the second of the pair; "
-                             f"the first was saved with the number before it")
+            raise run.report_pair(start + place, *cases[place:place + 2], f"demand 3: {wrong}")
     return moved
 
 

@@ -4,18 +4,16 @@ once; damaged lists and sheets.
 A corner draws a sheet and a list; either may be bytes, where it is damaged.
 """
 from functools import wraps
-from itertools import combinations
 
 import refused
 from applied_lists import Turns, filing_day, sheet_of, sheet_with, some_entries, some_sheet, volumes_of
 from drawing import capacity
-from lists import BAD_LIST, FILED_LATE, LAST_DAY, LAST_DAY_TO_FILE, OVERDRAWN, Transfer, TransferList
-from records import MOST_CONSUMERS, TOP_CAPACITY, Sheet
-from refusals import BUFFER_NUMBER, TRIED
+from records import ENTRY, FRONT, MOST_CONSUMERS, TOP_CAPACITY, Sheet, Transfer
+from refusals import BAD_LIST, BUFFER_NUMBER, FILED_LATE, LAST_DAY, LAST_FILING_DAY, OVERDRAWN, TRIED, TRIED_IN_LIST
+from refused import LARGEST_4
+from transfer_lists import TransferList
 
-LARGEST_4 = 2 ** 32 - 1
 OF_SHEET = tuple(number for number in TRIED if number != BUFFER_NUMBER)
-OF_LIST = (BAD_LIST, FILED_LATE, OVERDRAWN)
 
 # ------------------------------------------------------------------ 13: the list's form
 
@@ -41,7 +39,7 @@ def bytes_lost(rng, volumes):
     """Some bytes or a whole entry, of which the length field still speaks."""
     drawn = some_entries(rng, volumes).list()
     drawn.stated_length = len(drawn.to_bytes())
-    drawn.lost = min(rng.choice((1, 7, rng.randrange(1, 8))), drawn.stated_length - 5)
+    drawn.lost = min(rng.choice((1, ENTRY, rng.randrange(1, ENTRY + 1))), drawn.stated_length - FRONT)
     return drawn if drawn.lost else short_list(4)(rng, volumes)
 
 
@@ -78,6 +76,13 @@ def entry_put(draw_entry):
     return fault
 
 
+def behind_many(draw_entry):
+    """An entry that breaks a rule, behind more than 256 that do not."""
+    def fault(rng, volumes):
+        return TransferList(some_entries(rng, volumes, least=257, most=300).transfers + [draw_entry(rng, volumes)])
+    return fault
+
+
 def usual_entry(rng, volumes):
     """An entry that breaks no rule of 13 or 14."""
     giver, taker = rng.sample(range(max(2, len(volumes))), 2)
@@ -103,24 +108,24 @@ def one_consumer_twice(rng, volumes):
 FAULTS_13 = {
     "no_bytes": short_list(0), "one_byte": short_list(1), "four_bytes": short_list(4),
     "length_one_more": length_stated(lambda true: true + 1), "length_one_less": length_stated(lambda true: true - 1),
-    "length_an_entry_more": length_stated(lambda true: true + 7), "length_nought": length_stated(lambda true: 0),
+    "length_an_entry_more": length_stated(lambda true: true + ENTRY), "length_nought": length_stated(lambda true: 0),
     "length_all_ones": length_stated(lambda true: LARGEST_4),
     "length_65536_more": length_stated(lambda true: true + 65536),
     "length_lowest_byte_first": length_stated(refused.backwards),
     "bytes_lost": bytes_lost, "bytes_added": bytes_added,
-    **{f"{count}_bytes_of_an_entry": part_of_an_entry(count) for count in range(1, 7)},
+    **{f"{count}_bytes_of_an_entry": part_of_an_entry(count) for count in range(1, ENTRY)},
     **{f"version_{version}": list_version(version) for version in (0, 2, 255)},
     **{f"day_{day}": entry_put(entry_with(day=day)) for day in (0, LAST_DAY + 1, 255)},
     "giver_next": entry_put(past_the_last("giver")), "giver_255": entry_put(entry_with(giver=255)),
     "taker_next": entry_put(past_the_last("taker")), "taker_255": entry_put(entry_with(taker=255)),
-    "one_consumer_twice": entry_put(one_consumer_twice),
+    "one_consumer_twice": entry_put(one_consumer_twice), "behind_many": behind_many(past_the_last("taker")),
 }
 
 # ------------------------------------------------------------------ 14: filed late
 
 
 def some_late_day(rng):
-    return rng.randrange(LAST_DAY_TO_FILE + 1, LAST_DAY + 1)
+    return rng.randrange(LAST_FILING_DAY + 1, LAST_DAY + 1)
 
 
 def late_entry(rng, volumes):
@@ -133,9 +138,9 @@ def all_late(rng, volumes):
 
 
 FAULTS_14 = {
-    "day_21": entry_put(entry_with(day=LAST_DAY_TO_FILE + 1)), "day_31": entry_put(entry_with(day=LAST_DAY)),
-    "some_day": entry_put(late_entry), "all_late": all_late,
-    "nothing_moved": entry_put(entry_with(day=LAST_DAY_TO_FILE + 1, amount=0)),
+    "day_21": entry_put(entry_with(day=LAST_FILING_DAY + 1)), "day_31": entry_put(entry_with(day=LAST_DAY)),
+    "some_day": entry_put(late_entry), "all_late": all_late, "behind_many": behind_many(late_entry),
+    "nothing_moved": entry_put(entry_with(day=LAST_FILING_DAY + 1, amount=0)),
 }
 
 # ------------------------------------------------------------------ 15: overdrawn at its turn
@@ -160,6 +165,7 @@ FAULTS_15 = {
     "highest_bit": overdrawn(lambda rng, giver, taker: 2 ** 31),
     # The taker's volume with the amount is 2^32 or a little more, which four bytes do not hold.
     "past_four_bytes": overdrawn(lambda rng, giver, taker: min(LARGEST_4, 2 ** 32 - taker + rng.randrange(3))),
+    "behind_many": behind_many(entry_with(amount=TOP_CAPACITY + 1)),
 }
 
 
@@ -279,36 +285,62 @@ def good_list(draw_sheet):
     return draw
 
 
-def sheet_and_list(number, later):
+def sheet_and_list(number, faults):
     """A sheet that is turned down, with a list that would be."""
     def draw(rng):
         sheet = rng.choice(list(refused.REFUSALS[number].values()))(rng)
-        return sheet, rng.choice(list(FAULTS[later].values()))(rng, volumes_known(sheet))
+        return sheet, rng.choice(list(faults))(rng, volumes_known(sheet))
     return draw
 
 
-FAULTY_ENTRIES = {
-    BAD_LIST: (entry_with(day=0), entry_with(day=LAST_DAY + 1), past_the_last("giver"), past_the_last("taker"),
-               one_consumer_twice),
-    FILED_LATE: (late_entry,),
-    OVERDRAWN: (entry_with(amount=TOP_CAPACITY + 1),),
+def entry_behind(draw_entry):
+    def put(rng, volumes, drawn):
+        drawn.transfers.append(draw_entry(rng, volumes))
+    return put
+
+
+def length_of_an_entry_more(rng, volumes, drawn):
+    drawn.stated_length = len(drawn.to_bytes()) + ENTRY
+
+
+def part_of_an_entry_more(rng, volumes, drawn):
+    drawn.surplus = bytes(3)
+
+
+def version_2(rng, volumes, drawn):
+    drawn.version = 2
+
+
+# Each cause of 13 but too few bytes, to be put into a list behind an entry whose number is tried later.
+CAUSES_13 = {
+    "length": length_of_an_entry_more, "multiple": part_of_an_entry_more, "version": version_2,
+    "day_0": entry_behind(entry_with(day=0)), "day_32": entry_behind(entry_with(day=LAST_DAY + 1)),
+    "giver": entry_behind(past_the_last("giver")), "taker": entry_behind(past_the_last("taker")),
+    "twice": entry_behind(one_consumer_twice),
 }
+LATER_ENTRIES = {FILED_LATE: late_entry, OVERDRAWN: entry_with(amount=TOP_CAPACITY + 1)}
 
 
-def list_with_both(first, later):
+def list_with_both(put_cause, later):
     """The entry whose number is tried later stands in front."""
     def draw(rng):
         sheet = some_sheet(rng)
         volumes = volumes_of(sheet)
-        front, back = (rng.choice(FAULTY_ENTRIES[number])(rng, volumes) for number in (later, first))
         between = [usual_entry(rng, volumes) for _ in range(rng.choice((0, 0, 1, 4)))]
-        return sheet, TransferList([front] + between + [back])
+        drawn = TransferList([LATER_ENTRIES[later](rng, volumes)] + between)
+        put_cause(rng, volumes, drawn)
+        return sheet, drawn
     return draw
 
 
-SEVERAL_RULES = {f"{first}_and_{later}": sheet_and_list(first, later) for first in OF_SHEET for later in OF_LIST}
-for one, other in combinations(OF_LIST, 2):
-    SEVERAL_RULES[f"{one}_and_{other}"] = list_with_both(one, other)
+SEVERAL_RULES = {f"{first}_and_{later}": sheet_and_list(first, FAULTS[later].values())
+                 for first in OF_SHEET for later in TRIED_IN_LIST}
+# Each cause of 13 with the last of the sheet's numbers: whatever is tried before that one is found out.
+SEVERAL_RULES.update((f"{OF_SHEET[-1]}_and_{BAD_LIST}_{name}", sheet_and_list(OF_SHEET[-1], [fault]))
+                     for name, fault in FAULTS_13.items())
+SEVERAL_RULES.update((f"{BAD_LIST}_{name}_and_{later}", list_with_both(put_cause, later))
+                     for name, put_cause in CAUSES_13.items() for later in LATER_ENTRIES)
+SEVERAL_RULES[f"{FILED_LATE}_and_{OVERDRAWN}"] = list_with_both(entry_behind(late_entry), OVERDRAWN)
 
 # ------------------------------------------------------------------ damaged lists and sheets
 
@@ -323,7 +355,7 @@ def one_bit_changed(rng, content):
 
 def any_entries(rng, content):
     """A true front, and any bytes after it."""
-    count = 7 * rng.randrange(1, 20)
+    count = ENTRY * rng.randrange(1, 20)
     content[:] = TransferList([], surplus=rng.getrandbits(8 * count).to_bytes(count, "big")).to_bytes()
 
 

@@ -6,10 +6,10 @@ checked here too.
 import re
 from pathlib import Path
 
-import lists
-import transfers
+import list_cases
 import programs
 import sheets
+import transfer_lists
 from records import field_at, result_figures, row_volumes
 
 
@@ -94,6 +94,12 @@ class Run:
                           f"sheet: {sheet} ({len(case.sheet)} bytes)\n{self.beside(saved, case)}\n"
                           f"both as a case: {whole}\n{words}")
 
+    def report_pair(self, index, first, second, words):
+        """The same of two cases that follow each other."""
+        self.report(index, first, "")
+        return self.report(index + 1, second, f"{words}\nthe sheet named is the second of the pair; "
+                                              f"the first was saved with the number before it")
+
 
 class SheetRun(Run):
     answer_command, marks_command = "batch", "marks"
@@ -127,10 +133,10 @@ class ListRun(Run):
         return programs.TRANSFERS
 
     def intended_refusal(self, kind):
-        return transfers.intended_refusal(kind)
+        return list_cases.intended_refusal(kind)
 
     def field_at(self, case, place):
-        return lists.field_at(case.sheet, place)
+        return transfer_lists.field_at(case.sheet, place)
 
     def beside(self, saved, case):
         file = saved.with_suffix(".list")
@@ -139,9 +145,9 @@ class ListRun(Run):
 
     def wrong_in(self, case, after):
         """The sum of contract volumes is the same, and no other byte is touched."""
-        volumes, moved = lists.contract_volumes(case.sheet), lists.contract_volumes(after)
+        volumes, moved = transfer_lists.contract_volumes(case.sheet), transfer_lists.contract_volumes(after)
         if sum(volumes) != sum(moved):
             return f"the contract volumes add up to {sum(volumes)} before the list and to {sum(moved)} after it"
-        if lists.with_contract_volumes(case.sheet, moved) != after:
+        if transfer_lists.with_contract_volumes(case.sheet, moved) != after:
             return "another byte than those of the contract volumes has changed"
         return ""

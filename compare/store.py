@@ -18,9 +18,9 @@ from pathlib import Path
 
 sys.dont_write_bytecode = True
 
+import list_cases
 import programs
 import sheets
-import transfers
 from bands import EDGES
 from programs import Trouble
 
@@ -77,7 +77,7 @@ LISTS = (
     "list_13/four_bytes", "list_13/length_one_more", "list_13/6_bytes_of_an_entry", "list_13/version_2",
     "list_13/day_0", "list_13/day_32", "list_13/giver_next", "list_13/taker_next", "list_13/one_consumer_twice",
     "list_14/day_21", "list_15/one_more_than_the_giver_has", "list_15/taker_one_above", "list_15/emptied_before",
-    "several_rules/12_and_13", "several_rules/13_and_14", "several_rules/14_and_15",
+    "several_rules/12_and_13", "several_rules/13_version_and_14", "several_rules/14_and_15",
 )
 
 
@@ -106,7 +106,7 @@ def stored_cases(group):
 
 
 def stored_lists():
-    return [draw_stored(transfers.draw_case, f"{SEED}/transfers/{kind}", SHORT_PAIR, *kind.split("/"))
+    return [draw_stored(list_cases.draw_case, f"{SEED}/transfers/{kind}", SHORT_PAIR, *kind.split("/"))
             for kind in LISTS]
 
 
@@ -152,7 +152,7 @@ def answered_sheets(group, folder):
 def answered_lists(folder):
     cases = stored_lists()
     answers = programs.rival_answers(cases, folder, "transfers")
-    check_intended(cases, answers, transfers.intended_refusal)
+    check_intended(cases, answers, list_cases.intended_refusal)
     return list(map(stored_list_bytes, cases, answers))
 
 

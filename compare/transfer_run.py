@@ -3,21 +3,21 @@
 Of every list that is applied, beside what ListRun checks: the sheet is accepted before and after, with the same room.
 And of pairs of sheets as in demand 3: one list gets the same answer from both, and demand 3 holds of them afterwards.
 """
+import list_cases
 import sheets
-import transfers
 from coverage import Coverage
 from demand_3 import check_pairs, moved_in
-from lists import contract_volumes
 from records import result_length
 from refused_lists import OF_SHEET
 from running import CHUNK, ListRun, SheetRun, answer_text
+from transfer_lists import contract_volumes
 
 MARKS = {
     "refusals of the sheet": [f"N{number}" for number in OF_SHEET],
     "13": ["N13"] + [f"13{cause}" for cause in (
-        "short", "length", "multiple", "version", "day0", "dayabove", "giver", "taker", "same", "behind14")],
+        "short", "length", "multiple", "version", "day0", "dayabove", "giver", "taker", "same", "with14")],
     "14": ["N14", "day21", "day31"],
-    "15": ["N15"] + [f"15{cause}" for cause in ("giver", "taker", "late", "first", "hundredthousandandone")],
+    "15": ["N15"] + [f"15{cause}" for cause in ("giver", "taker", "turn", "first", "oneabove")],
     "applied": ["done", "entries0", "entries1", "entriesmany", "day1", "day20", "amount0", "takerfull", "giverempty",
                 "chain", "repeated"],
 }
@@ -41,9 +41,9 @@ def settle_applied(run, start, cases, answers):
 
 
 def compare_lists(run, settling, count):
-    coverage, applied = Coverage(MARKS, transfers.GROUPS), 0
+    coverage, applied = Coverage(MARKS, list_cases.GROUPS), 0
     for start in range(0, count, CHUNK):
-        cases = list(transfers.cases(run.seed, min(CHUNK, count - start), start))
+        cases = list(list_cases.cases(run.seed, min(CHUNK, count - start), start))
         answers, marks = run.answers(start, cases)
         coverage.add(cases, marks)
         applied += settle_applied(settling, 2 * applied, cases, answers)
@@ -74,27 +74,35 @@ def check_same_answer(run, start, cases, answers):
         if isinstance(first, bytes) and isinstance(second, bytes):
             first, second = contract_volumes(first), contract_volumes(second)
         if first != second:
-            run.report(start + place, cases[place], "")
             told = " and ".join(answer_text(answer) for answer in answers[place:place + 2])
-            raise run.report(start + place + 1, cases[place + 1],
-                             f"one list for two sheets as in demand 3, but answers or contract volumes differ: {told}\n"
-                             f"the sheet named is the second of the pair; "
-                             f"the first was saved with the number before it")
+            words = f"one list, two sheets as in demand 3, but answers or contract volumes differ: {told}"
+            raise run.report_pair(start + place, *cases[place:place + 2], words)
 
 
 def compare_pairs(run, settling, count):
-    """Applies one list to two sheets and checks demand 3 afterwards. Gives how many pairs had a figure that moved."""
-    moved = 0
+    """Applies one list to two sheets and checks demand 3 afterwards.
+
+    Gives how many pairs had a figure that moved, and in how many the list changed contract volumes.
+    """
+    moved = changed = 0
     for start in range(0, count, CHUNK):
-        pairs = transfers.pairs(run.seed, min(CHUNK, count - start), start)
-        cases = [transfers.ListCase(pair.kind, sheet, pair.list)
+        pairs = list_cases.pairs(run.seed, min(CHUNK, count - start), start)
+        cases = [list_cases.ListCase(pair.kind, sheet, pair.list)
                  for pair in pairs for sheet in (pair.first, pair.second)]
         answers, _ = run.answers(2 * start, cases)
         check_same_answer(run, 2 * start, cases, answers)
         settled = [exact_case(case.kind, sheet_after(case, answer)) for case, answer in zip(cases, answers)]
         results, _ = settling.answers(2 * start, settled)
         moved += check_pairs(settling, 2 * start, settled, results)
-    return moved
+        # Of a pair one sheet will do: both have the same contract volumes, before the list and after it.
+        changed += sum(before.sheet != after.sheet for before, after in zip(cases[::2], settled[::2]))
+    return moved, changed
+
+
+def changed_in(changed, count):
+    """As moved_in, of the contract volumes."""
+    print(f"in {changed} of these pairs the list changed contract volumes")
+    return "in less than half of the pairs with a list it changed contract volumes" if 2 * changed < count else ""
 
 
 # ------------------------------------------------------------------ both
@@ -108,5 +116,6 @@ def compare_transfers(options, folder):
     failed = coverage.failure(options.lists, "lists")
     if failed:
         return failed
-    moved = compare_pairs(ListRun("pair-list", *where), SheetRun("pair-list-sheet", *where), options.list_pairs)
-    return moved_in(moved, options.list_pairs, "pairs with a list")
+    count = options.list_pairs
+    moved, changed = compare_pairs(ListRun("pair-list", *where), SheetRun("pair-list-sheet", *where), count)
+    return moved_in(moved, count, "pairs with a list") or changed_in(changed, count)

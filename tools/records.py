@@ -1,7 +1,8 @@
-"""A month's sheet as records and as bytes, and the figures of a result.
+"""A month's sheet as records and as bytes, the entries of a list of transfers, and the figures of a result.
 
-Layout and limits are those of document 01: "Units and the sheet", "Result" and "When a sheet is turned down".
-Capacities, powers, volumes and peaks are in tenths of a megawatt, prices in tiyn, coefficients in millionths.
+Layout and limits are those of document 01: "Units and the sheet", "Result" and "When a sheet is turned down"; of a list
+those of request 1 of document 02. Capacities, powers, volumes, peaks and amounts are in tenths of a megawatt, prices in
+tiyn, coefficients in millionths.
 """
 import struct
 import sys
@@ -20,6 +21,7 @@ SINGLE_BUYER = 255
 SINGLE_BUYER_WORDS = "single buyer"
 VERSION = 1
 RESULT_VERSION = 1    # under every version of the sheet
+LIST_VERSION = 1
 
 
 def rounded(figure, divisor):
@@ -105,6 +107,17 @@ CONSUMER_FIELDS = (
     Field("z", "z", 1, Z),
     Field("price", "price", 4, PRICE),
 )
+# A list of transfers: its front and each of its entries.
+FRONT_FIELDS = (
+    Field("length", "length", 4, PLAIN),
+    Field("version", "version", 1, PLAIN),
+)
+ENTRY_FIELDS = (
+    Field("day", "day filed", 1, PLAIN),
+    Field("giver", "giver", 1, PLAIN),
+    Field("taker", "taker", 1, PLAIN),
+    Field("amount", "amount", 4, CAPACITY),
+)
 
 
 def packing(fields):
@@ -116,7 +129,9 @@ PRODUCER_PACKING = packing(PRODUCER_FIELDS)
 HOUR_PACKING = packing(HOUR_FIELDS)
 ROW_PACKING = packing(ROW_FIELDS)
 CONSUMER_PACKING = packing(CONSUMER_FIELDS)
-HEADER = HEADER_PACKING.size
+FRONT_PACKING = packing(FRONT_FIELDS)
+ENTRY_PACKING = packing(ENTRY_FIELDS)
+HEADER, FRONT, ENTRY = HEADER_PACKING.size, FRONT_PACKING.size, ENTRY_PACKING.size
 
 # ------------------------------------------------------------------ records
 
@@ -259,6 +274,17 @@ class Consumer:
 
     def to_bytes(self):
         return CONSUMER_PACKING.pack(*self.figures())
+
+
+class Transfer(NamedTuple):
+    """An entry of a list."""
+    day: int       # of filing, in the month before
+    giver: int     # consumers from 0
+    taker: int
+    amount: int
+
+    def to_bytes(self):
+        return ENTRY_PACKING.pack(*self)
 
 
 RECORDS = {"producer": Producer, "row": Row, "consumer": Consumer}

@@ -17,7 +17,8 @@ TRIED = (1, 2, 3, 4, 5, 6, 7, 8, 9, 10, 11, 12)
 BUFFER_NUMBER = 7       # the result buffer is shorter than the result
 # The same for a list of transfers. A settlement never meets them; where a list is applied to a sheet, they are tried
 # after all of the sheet's save 7.
-TRIED_IN_LIST = (13, 14, 15)
+TRIED_IN_LIST = BAD_LIST, FILED_LATE, OVERDRAWN = 13, 14, 15
+LAST_DAY = 31           # that a month can have
 LAST_FILING_DAY = 20
 
 RULES = {
@@ -33,8 +34,8 @@ RULES = {
     10: "a row names a producer or a consumer that the sheet does not have",
     11: f"a price is above {PRICE.text(TOP_PRICE)} tenge",
     12: f"mining days are above the days of the month, or z is outside {Z.text(LOWEST_Z)} to {Z.text(TOP_Z)}",
-    13: "the list's length or version is wrong, or an entry's day is not 1 to 31, or it does not name two consumers of "
-        "the sheet",
+    13: f"the list's length or version is wrong, or an entry's day is not 1 to {LAST_DAY}, or it does not name two "
+        "consumers of the sheet",
     14: f"an entry was filed after day {LAST_FILING_DAY}",
     15: "at its turn, an entry asks more than its giver has, or brings its taker above "
         f"{CAPACITY.text(TOP_CAPACITY)} MW",

@@ -11,36 +11,14 @@ from files import ListTrouble, Trouble
 from monthtext import NUMBER, csv_figures, csv_lines, csv_text, figure_of, shown
 from names import NO_NAMES
 from printing import table_lines
-from records import CAPACITY, PLAIN, TOP_CAPACITY, Entry, Field, Sheet, packing
-from refusals import HANDED_OVER, LAST_FILING_DAY, Refusal, all_refusals, field_places, places_known, turn
+from records import (CAPACITY, ENTRY, ENTRY_FIELDS, ENTRY_PACKING, FRONT, FRONT_FIELDS, FRONT_PACKING, LIST_VERSION,
+                     TOP_CAPACITY, Entry, Sheet, Transfer)
+from refusals import HANDED_OVER, LAST_DAY, LAST_FILING_DAY, Refusal, all_refusals, field_places, places_known, turn
 
 TEXT_ENDING, BYTES_ENDING = ".csv", ".list"
-VERSION = 1
-LAST_DAY = 31     # that a month can have
-
-FRONT_FIELDS = (
-    Field("length", "length", 4, PLAIN),
-    Field("version", "version", 1, PLAIN),
-)
-ENTRY_FIELDS = (
-    Field("day", "day filed", 1, PLAIN),
-    Field("giver", "giver", 1, PLAIN),
-    Field("taker", "taker", 1, PLAIN),
-    Field("amount", "amount", 4, CAPACITY),
-)
-FRONT_PACKING, ENTRY_PACKING = packing(FRONT_FIELDS), packing(ENTRY_FIELDS)
-FRONT, ENTRY = FRONT_PACKING.size, ENTRY_PACKING.size
 ENTRY_PLACES = field_places(ENTRY_FIELDS)
 ENTRY_HEADS = ("entry", "day filed", "giver", "taker", "amount")
 VOLUME_HEADS = ("consumer", "before", "given", "taken", "after")
-
-
-class Transfer(NamedTuple):
-    """An entry of a list."""
-    day: int       # of filing, in the month before
-    giver: int     # consumers from 0
-    taker: int
-    amount: int
 
 
 class GivenList(NamedTuple):
@@ -67,7 +45,7 @@ TEXT_WORDS = f"begins as a list's text does, whose name ends in {TEXT_ENDING}"
 
 def list_bytes(transfers):
     body = b"".join(ENTRY_PACKING.pack(*transfer) for transfer in transfers)
-    return FRONT_PACKING.pack(FRONT + len(body), VERSION) + body
+    return FRONT_PACKING.pack(FRONT + len(body), LIST_VERSION) + body
 
 
 def transfers_of(content):
@@ -112,8 +90,8 @@ def front_faults(content):
         yield 0, f"length, {length}, but there are {len(content)} bytes{text}"
     elif (length - FRONT) % ENTRY:
         yield 0, f"length, {length}: bytes after the last whole entry: {(length - FRONT) % ENTRY}"
-    if version != VERSION:
-        yield FRONT - 1, f"version, {version} (not {VERSION})"
+    if version != LIST_VERSION:
+        yield FRONT - 1, f"version, {version} (not {LIST_VERSION})"
 
 
 def entries_known(content):

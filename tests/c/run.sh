@@ -24,7 +24,10 @@ strict() {
 
 # The stored cases: sheets with results, and sheets with lists of transfers.
 lists=crates/vectors/data/transfers
-sheets=$(ls -d crates/vectors/data/* | grep -v "^$lists\$")
+sheets=
+for file in crates/vectors/data/*; do
+    [ "$file" = "$lists" ] || sheets="$sheets $file"
+done
 
 # The header alone, and the example.
 for std in c99 c11 c17; do
@@ -88,6 +91,7 @@ measure() {
     shift
     measured=$("$out/stack" "$entry" "$@") || fail "a stored case of capacity_$entry comes out otherwise"
     set -- $measured
+    [ "$1" -gt 0 ] || fail "there is no stored case of capacity_$entry"
     [ "$3" -le "$frames" ] || fail "$3 bytes of stack used by capacity_$entry, $frames seen in the code"
     echo "stack: capacity_$entry, $1 stored cases, sheets to $2 bytes: at most $3 bytes"
 }

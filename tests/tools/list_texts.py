@@ -11,8 +11,9 @@ import records
 import refusals
 import transfers
 from checks import EXAMPLES, SHEET, check, run, sheet, turned_down, words_of
+from records import Transfer
 from texts import changed
-from transfers import GivenList, Transfer
+from transfers import GivenList
 
 GOOD = "day,giver,taker,amount\n1,0,1,10.0\n20,1,2,10.5\n"
 GOOD_BYTES = bytes.fromhex("00000013 01 01 00 01 00000064 14 01 02 00000069")
@@ -481,7 +482,7 @@ def test_drawn(folder):
         if not rival:
             after = [consumer.contract for consumer in records.Sheet.from_bytes(answer).consumers]
             check(volumes == after, f"show: drawn list {place}: the volumes after it")
-        if transfers.entries_known(case.list) and case.list[4] == transfers.VERSION:
+        if transfers.entries_known(case.list) and case.list[4] == records.LIST_VERSION:
             text = folder / "list.csv"
             text.write_bytes(transfers.text_files("list", case.list, str(text))[str(text)])
             check(transfers.read_text(text) == case.list, f"pack after unpack: drawn list {place}")
@@ -499,7 +500,7 @@ def check_places(cases, answers, folder):
         if answer not in refusals.TRIED_IN_LIST or not transfers.entries_known(case.list) or case.sheet[13] < 2:
             continue
         packed, last = bytearray(case.list), (0, 0)
-        packed[4] = transfers.VERSION
+        packed[4] = records.LIST_VERSION
         while (first := first_of(case._replace(list=bytes(packed)))[0]) is not None:
             turn = refusals.turn(first.number), first.place
             check(turn > last, f"explain: byte {first.place} after {last}")

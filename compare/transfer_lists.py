@@ -1,39 +1,17 @@
-"""A list of transfers as records and as bytes, and the contract volumes in a sheet's bytes.
-
-Layout and limits are those of request 1 of document 02. Amounts and volumes are in tenths of a megawatt.
-"""
+"""A list of transfers as it is drawn, good or to be turned down, and the contract volumes in a sheet's bytes."""
 import struct
 from dataclasses import dataclass
-from typing import NamedTuple
 
-from records import HEADER, Header, entries
+from records import FRONT, FRONT_PACKING, HEADER, LIST_VERSION, Header, entries
 
-FRONT_PACKING = struct.Struct(">IB")
-ENTRY_PACKING = struct.Struct(">3BI")
-FRONT, ENTRY = FRONT_PACKING.size, ENTRY_PACKING.size
-VERSION = 1
-LAST_DAY_TO_FILE = 20
-LAST_DAY = 31
-BAD_LIST, FILED_LATE, OVERDRAWN = 13, 14, 15
 VOLUME = struct.Struct(">I")
-
-
-class Transfer(NamedTuple):
-    """An entry of the list."""
-    day: int      # filed in the month before
-    giver: int    # consumer from 0
-    taker: int
-    amount: int
-
-    def to_bytes(self):
-        return ENTRY_PACKING.pack(*self)
 
 
 @dataclass
 class TransferList:
     transfers: list
     # The rest differs only in lists that are to be turned down.
-    version: int = VERSION
+    version: int = LIST_VERSION
     stated_length: int = None    # in place of the true length
     surplus: bytes = b""         # added after the last entry
     lost: int = 0                # bytes left off at the end

@@ -11,7 +11,8 @@ import sheets
 from accepted import credit_sheet
 from applied_lists import APPLIED, LONG, sheet_of, some_entries, some_sheet, volumes_of
 from drawing import capacity
-from refused_lists import DAMAGED, FAULTS, LIST_13, LIST_14, LIST_15, OF_LIST, REFUSED_SHEETS, SEVERAL_RULES
+from refusals import TRIED_IN_LIST
+from refused_lists import DAMAGED, FAULTS, LIST_13, LIST_14, LIST_15, REFUSED_SHEETS, SEVERAL_RULES
 
 
 class ListCase(NamedTuple):
@@ -112,7 +113,7 @@ def pair(seed, index):
     peaks_at_bands(rng, sheet, turns.volumes)
     drawn = turns.list()
     if index % 5 == 4:
-        drawn = rng.choice(list(FAULTS[rng.choice(OF_LIST)].values()))(rng, volumes_of(sheet))
+        drawn = rng.choice(list(FAULTS[rng.choice(TRIED_IN_LIST)].values()))(rng, volumes_of(sheet))
     second = sheets.worsened(rng, sheet)
     return ListPair(f"pair/{name}", sheet.to_bytes(), second.to_bytes(), in_bytes(drawn))
 
