@@ -1,2 +1,2 @@
-pub mod Powers
 pub mod Told
+pub mod Powers

@@ -5,6 +5,9 @@ use Rattle.refusals_powers.proofs.Powers.{powers-more}
 use Rattle.refusals_powers.proofs.high_powers.Statement.{statement}
 use Rattle.refusals_powers.proofs.high_powers.Tie as tie
 
+low-blocks-requires : tie.Need-low-blocks-requires
+low-blocks-requires c κs = search needs
+
 high-blocks-requires : tie.Need-high-blocks-requires
 high-blocks-requires c κs = search needs
 
@@ -28,6 +31,7 @@ pub high-powers-spec : {M : Type 1} → statement M
 high-powers-spec =
     tie.close
     (tie.spec
+    low-blocks-requires
     high-blocks-requires
     mul-one-by-one
     mul-one-by-one-2
