@@ -62,7 +62,8 @@ begin
     if Outcome.TurnFaults = [Fault] then AddMark(Line, '15' + TurnFaultNames[Fault]);
   if FaultsAtTurn(Failing, Before) = [] then AddMark(Line, '15turn');
   if Outcome.Applied = 0 then AddMark(Line, '15first');
-  if TakerAfter(Failing, Outcome.Volumes) = TopCapacity + 1 then
+  if (Outcome.TurnFaults = [faultTakerAbove])
+    and (TakerAfter(Failing, Outcome.Volumes) = TopCapacity + 1) then
     AddMark(Line, '15oneabove');
 end;
 
