@@ -29,6 +29,12 @@ ALIKE = [
     ("a month's last hour is hour 23 of its day and the hour after it would be hour 0: neither is a control hour",
      ["ControlHours.controlSum: sum (counted h series) (hours h) → sum (counted h series) (hours h + 1)",
       "ControlHours.controlSum: sum (counted h series) (hours h) → sum (counted h series) (hours h - 1)"]),
+    ("the first weekday and the day are added up, which is the same in either order",
+     ["ControlHours.controlWeekday: weekdayOn first day → weekdayOn day first",
+      "ControlHours.controlDay: controlWeekday (h .weekday) day → controlWeekday day (h .weekday)",
+      "ControlTable.controlWeekdays: controlWeekday (suc i) day → controlWeekday day (suc i)"]),
+    ("what is read past a line's end says no where it is not the letter y, be it 0 or 1",
+     ["ControlTable.says: getD (lineOf first) day 0 → getD (lineOf first) day 1"]),
     ("the row past the last is read from the first consumer's contract volume, whose second byte is at most 1 "
      "(number 9), or past the end as 0: it is never a support row",
      ["Cut.supportVolume: sum (ownSupport m p) (m .header .rows) → sum (ownSupport m p) (m .header .rows + 1)"]),

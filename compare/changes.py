@@ -6,7 +6,7 @@ from definitions import (Call, Definition, Empty, Field, Function, Let, Name, Nu
 from slips import SLIPS
 
 DEFINITIONS = ("Range", "Units", "Month", "ControlHours", "Bands", "Cut", "Coefficients", "Rows", "Consumers", "Totals",
-               "Fields", "Sheet", "Result", "Refusals", "Outcome", "TransferList", "Transfers")
+               "Fields", "Sheet", "Result", "Refusals", "Outcome", "TransferList", "Transfers", "ControlTable")
 
 
 class Mutant(NamedTuple):
@@ -77,7 +77,7 @@ NAME_KINDS = (
 COMPARISONS = {"leb": ("ltb", "eqb"), "ltb": ("leb", "eqb"), "eqb": ("leb", "ltb")}
 OTHER_SIGNS = {"+": ["-"], "-": ["+"], "*": ["/"], "/": ["*", "%"], "%": ["/"], "^": ["*"], "&&": ["||"], "||": ["&&"]}
 OTHER_NAMES = {"min": "max", "max": "min"}
-COUNT_PLACE = {"sum": 1, "any": 1, "joined": 1, "take": 0, "drop": 0}  # which argument is a count
+COUNT_PLACE = {"sum": 1, "any": 1, "listed": 1, "joined": 1, "take": 0, "drop": 0}  # which argument is a count
 ROUNDINGS = {
     "rounded down": lambda n, d: Sign("/", n, d),
     "rounded up": lambda n, d: Sign("/", Sign("+", n, Sign("-", d, Number(1))), d),

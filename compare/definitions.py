@@ -373,6 +373,9 @@ class Tokens:
     def signature(self):
         name = self.name()
         self.take(":")
+        if self.next() == "{":  # a type that is found by itself, as in '{A : Type 0} → List A': nothing is computed of it
+            for word in ("{", None, ":", "Type", "0", "}", "→"):
+                self.take(word)
         type_ = self.expression()
         self.end()
         return name, type_

@@ -2,9 +2,15 @@
 ghost use mathlib.Core.Path.{_≡_};
 ghost use Prim.Native.Nat.{_/_, _^_};
 ghost use lib.Dec.{ltb};
-ghost use Rattle.rules.specs.ControlHours.{weekdayOn, holidayOn, controlDay};
-ghost use Rattle.laws.specs.Lists.{listed};
+ghost use Rattle.rules.specs.Range.{listed};
+ghost use Rattle.rules.specs.ControlHours.{holidayOn};
+ghost use Rattle.rules.specs.ControlTable.{tableDay, inTable};
 use rules::Header;
+
+pub mod table;
+
+use table::YES;
+use table::line_of;
 
 // The day's bit of the holidays; no day past the 32 bits has one.
 pub fn holiday_on(h: Header, day: u8) -> bool
@@ -17,37 +23,31 @@ pub fn holiday_on(h: Header, day: u8) -> bool
     }
 }
 
-// The weekday of a day, Monday 1 to Sunday 7.
-fn weekday_on(h: Header, day: u8) -> u32
-    ensures { λ r. ⌜ r ≡ weekdayOn h day ⌝ }
-{
-    (h.weekday as u32 + day as u32 + 6) % 7 + 1
-}
-
-// Monday to Friday, and no holiday.
-pub fn control_day(h: Header, day: u8) -> bool
-    ensures { λ r. ⌜ r ≡ controlDay h day ⌝ }
-{
-    (weekday_on(h, day) <= 5) & !holiday_on(h, day)
-}
-
 // Which days are control days, of 31, as many as a month may have.
 pub struct ControlDays {
     pub on: [bool; 31],
 }
 
-// The control days that a header gives, whatever its number of days.
+// The control days that a header gives, whatever its number of days: yes in the table, and no holiday.
 pub fn control_days(h: Header) -> ControlDays
-    ensures { λ r. ⌜ r .on ≡ listed (controlDay h) 31 ⌝ }
+    ensures { λ r. ⌜ r .on ≡ listed (tableDay h) 31 ⌝ }
 {
+    let line = line_of(h.weekday);
     let mut on = [false; 31];
     let mut day: u8 = 0;
     while day < 31 {
         let i = day as usize;
-        on[i] = control_day(h, day);
+        on[i] = (line[i] == YES) & !holiday_on(h, day);
         day += 1;
     }
     ControlDays { on }
+}
+
+// A month that the table has, so that its control days are those of the weekday rule.
+pub fn in_table(h: Header) -> bool
+    ensures { λ r. ⌜ r ≡ inTable h ⌝ }
+{
+    (1 <= h.weekday) & (h.weekday <= 7) & (h.days <= 31)
 }
 
 // Some day past the month's end has a bit in the holidays.

@@ -1,6 +1,6 @@
 -- Powers of a series that stand in a part. Assumes nothing.
-use mathlib.Core.Path.{_≡_, refl, sym}
-use mathlib.Core.Bool.{Bool, true, false, _&&_, true≢false}
+use mathlib.Core.Path.{_≡_}
+use mathlib.Core.Bool.{true}
 use mathlib.Core.List.{List}
 use Prim.Native.Nat.{ℕ, _+_, _*_, _≤_, _<_}
 use native.Mathlib.Nat.{mul-le-mul, mul-le-mul-left}
@@ -26,8 +26,3 @@ module _ (part : List ℕ) (x : Series) where
 -- The places of a series are not far.
 pub near : (step i : ℕ) → step ≤ 65535 → i < 65536 → step * i ≤ 4294836225
 near step i s l = mul-le-mul {n₂ = 65535} {m₂ = 65535} s (omega arith)
-
--- Two tests hold, so the one and the other.
-pub both : (a b : Bool) → (a && b) ≡ true → (a ≡ true) × (b ≡ true)
-both true b e = (refl, e)
-both false b e = absurd (true≢false (sym e))

@@ -9,7 +9,7 @@ use borrow.Author.Tests.{eqb-true, eqb-false, ltb-true, ltb-false, lt-ltb, le-lt
 use lib.Dec.{eqb, ltb}
 use lib.ListN.{length, getD, set, replicate, length-set, length-replicate, getD-replicate}
 use lib.Seq.{getD-set-same, getD-set-other}
-use Rattle.laws.specs.Lists.{listed}
+use Rattle.rules.specs.Range.{listed}
 
 -- n elements, at each place what f gives; d is read past the end.
 pub record Agrees {A : Type 0} (n : ℕ) (d : A) (f : ℕ → A) (xs : List A) : Type 0 where

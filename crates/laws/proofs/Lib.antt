@@ -13,3 +13,4 @@ pub mod Refusals
 pub mod Transfers
 pub mod Figures
 pub mod ControlHours
+pub mod ControlTable

@@ -1,6 +1,6 @@
 -- Laws of sums and tests over a range, each once. Assumes nothing.
 use mathlib.Core.Path.{_≡_, refl, sym, ap, _∙_}
-use mathlib.Core.Bool.{Bool, true, false, _||_, or-true, or-false, or-assoc, true≢false}
+use mathlib.Core.Bool.{Bool, true, false, _&&_, _||_, or-true, or-false, or-assoc, true≢false}
 use mathlib.Core.Logic.{⊎-elim}
 use Prim.Native.Nat.{ℕ, zero, suc, zero-le, _+_, _*_, _≤_, _<_}
 use native.Mathlib.Nat.{le-refl, le-antisymm, le-of-eq, suc-mul, eq-or-lt-of-le, le-of-suc-le-suc}
@@ -72,6 +72,11 @@ pub when-le : (b : Bool) (v : ℕ) → when b v ≤ v
 unfolding when
 when-le true v = le-refl v
 when-le false v = zero-le
+
+-- Two tests hold, so the one and the other.
+pub both : (a b : Bool) → (a && b) ≡ true → (a ≡ true) × (b ≡ true)
+both true b e = (refl, e)
+both false b e = absurd (true≢false (sym e))
 
 -- Neither of two tests holds, so neither the one nor the other.
 pub or-left : (a b : Bool) → (a || b) ≡ false → a ≡ false

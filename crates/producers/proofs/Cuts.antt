@@ -13,9 +13,10 @@ use Rattle.rules.specs.Sheet.{producerAt, sheetLength, statedOf, producerUnder,
 use Rattle.rules.specs.Limits.{HeaderLimits}
 use Rattle.rules.specs.Cut.{ownVolume, supportVolume, summedCapacity, excess, leftToCut}
 use Rattle.rules.specs.Coefficients.{exactK1, exactK4, k1, k2, k4, k5, inOrder, coefficients}
-use Rattle.laws.specs.Lists.{listed}
+use Rattle.rules.specs.Range.{listed}
 use Rattle.laws.proofs.Range.{sum-none}
 use Rattle.laws.proofs.Arrays.{Agrees, listed-agrees}
+use Rattle.laws.proofs.ControlTable.{is-in-table}
 use Rattle.volumes.specs.declared.Volumes.{Volumes}
 use Rattle.volumes.specs.Volumes.{Fits, volumesOf, noVolumes}
 use Rattle.producers.specs.declared.Terms.{Terms}
@@ -56,7 +57,8 @@ left-stated l s p stated summed excess = rw (excess, summed, stated, left-first 
 module _ (layout : Layout) (s : List ℕ) (w : HeaderLimits (layout .header)) (whole : sheetLength layout ≤ length s) where
   all-have : withTerms layout s ≡ layout .header .producers
   unfolding withTerms
-  all-have = rw (le-ltb 31 (layout .header .days) (w .days-to), le-ltb (length s) (sheetLength layout) whole) (omega (arith, w .producers))
+  all-have =
+      rw (is-in-table (layout .header) (w .days-to) (w .weekday-from) (w .weekday-to), le-ltb (length s) (sheetLength layout) whole) (omega (arith, w .producers))
 
   pub known-first : (ts : List Terms) → ts ≡ listed (termsOf layout s) 6 → Known (monthUnder layout s) 0 (layout .header .producers) ts
   known-first ts e = let k : Agrees 6 noTerms (termsOf layout s) ts = listed-agrees e in rw all-have at k

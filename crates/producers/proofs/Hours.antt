@@ -11,14 +11,15 @@ use Rattle.rules.specs.declared.Layout.{Layout}
 use Rattle.rules.specs.declared.Ratio.{Ratio}
 use Rattle.rules.specs.declared.Series.{Series}
 use Rattle.rules.specs.declared.Stated.{Stated}
-use Rattle.rules.specs.Range.{sum, when}
+use Rattle.rules.specs.Range.{sum, when, listed}
 use Rattle.rules.specs.Month.{hours}
 use Rattle.rules.specs.Sheet.{hoursWidth, hoursAt, producerAt, statedOf, power, hourSeries, producerUnder}
 use Rattle.rules.specs.Outcome.{within}
 use Rattle.rules.specs.ControlHours.{controlDay, controlSum, controlCount, controlAverage, average}
+use Rattle.rules.specs.ControlTable.{tableDay}
+use Rattle.laws.proofs.ControlTable.{table-day}
 use Rattle.rules.specs.Bands.{bandOf, thousandths}
 use Rattle.rules.specs.Coefficients.{ratio, overuse, penalty, lessPenalty, asked, met, exactK1, exactK4}
-use Rattle.laws.specs.Lists.{listed}
 use Rattle.laws.proofs.Range.{sum-same}
 use Rattle.laws.proofs.Arrays.{getD-listed}
 use Rattle.laws.proofs.Fields.{read-part}
@@ -71,9 +72,9 @@ module _ (l : Layout) (s : List ℕ) (p : ℕ) (fits : hoursAt l p + hoursWidth 
         rw (is, sums, standing (hourSeries l .working) refl (omega arith), standing (hourSeries l .possible) refl (omega arith), sum-same _ _ {n = hours (l .header)} refl met-read, sum-same _ _ {n = hours (l .header)} refl asked-read)
 
   -- k1.
-  module _ (few : l .header .days ≤ 31) {on : List Bool} (days : on ≡ listed (controlDay (l .header)) 31) where
+  module _ (few : l .header .days ≤ 31) (from : 1 ≤ l .header .weekday) (to : l .header .weekday ≤ 7) {on : List Bool} (days : on ≡ listed (tableDay (l .header)) 31) where
     marked : (d : ℕ) → d < l .header .days → getD on d false ≡ controlDay (l .header) d
-    marked d b = rw days (getD-listed false (controlDay (l .header)) 31 d (omega arith))
+    marked d b = rw days (getD-listed false (tableDay (l .header)) 31 d (omega arith)) ∙ table-day (l .header) d from to (omega arith)
 
     evening-read : (d : ℕ) → d < l .header .days → evening (powerIn part (hourSeries l .outside)) d ≡ evening (producerUnder l s p .outsideUse) d
     evening-read d b = sum-same _ _ {n = 6} refl (λ t q. read (hourSeries l .outside) refl (omega arith) (24 * d + (17 + t)) (omega arith))

@@ -1,6 +1,6 @@
 -- What a producer's rows are settled by: what is left to cut of them, and k1 to k10.
 use Prim.Native.Nat.{ℕ, _-_, min, max}
-use mathlib.Core.Bool.{cond, _||_}
+use mathlib.Core.Bool.{cond, not, _||_}
 use mathlib.Core.List.{List, [], _∷_}
 use lib.ListN.{length, replicate}
 use lib.Dec.{ltb}
@@ -12,6 +12,7 @@ use Rattle.rules.specs.Month.{Month, hours}
 use Rattle.rules.specs.Sheet.{sheetLength, monthUnder}
 use Rattle.rules.specs.Cut.{leftToCut}
 use Rattle.rules.specs.ControlHours.{average}
+use Rattle.rules.specs.ControlTable.{inTable}
 use Rattle.rules.specs.Coefficients.{share, millionthsOf, coefficients}
 use Rattle.laws.proofs.Arrays.{Agrees, filled}
 use Rattle.units.specs.Sums.{tenths}
@@ -53,9 +54,10 @@ noTerms = record { excess = tenths 0; ks = [] }
 abbrev pub zeroTerms : Terms
 zeroTerms = record { excess = tenths 0; ks = replicate 10 0 }
 
--- How many producers of a sheet have terms: at most six, and none in a month of more than 31 days or in a sheet that ends too soon.
+-- How many producers of a sheet have terms: at most six, and none in a month that the table of control weekdays does not have or in a sheet
+-- that ends too soon.
 unfoldable pub withTerms : Layout → List ℕ → ℕ
-withTerms layout s = cond (ltb 31 (layout .header .days) || ltb (length s) (sheetLength layout)) 0 (min (layout .header .producers) 6)
+withTerms layout s = cond (not (inTable (layout .header)) || ltb (length s) (sheetLength layout)) 0 (min (layout .header .producers) 6)
 
 -- The first n producers when row j's turn comes; past them there are none.
 abbrev pub termsBelow : Month → ℕ → ℕ → ℕ → Terms

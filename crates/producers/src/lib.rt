@@ -3,15 +3,16 @@ ghost use mathlib.Core.Path.{_≡_};
 ghost use Prim.Native.Nat.{_+_, _-_, _*_, _<_, _≤_};
 ghost use lib.ListN.{length};
 ghost use Rattle.rules.specs.Sheet.{sheetLength, hoursAt, hoursWidth, monthUnder};
-ghost use Rattle.rules.specs.ControlHours.{controlDay};
+ghost use Rattle.rules.specs.ControlTable.{tableDay};
 ghost use Rattle.rules.specs.Bands.{bandOf, thousandths};
 ghost use Rattle.rules.specs.Coefficients.{ratio, lessPenalty, millionthsOf};
-ghost use Rattle.laws.specs.Lists.{listed};
+ghost use Rattle.rules.specs.Range.{listed};
 ghost use Rattle.laws.specs.Bounds.{mostWord};
 ghost use Rattle.volumes.specs.Volumes.{Fits, mostVolume, volumesOf};
 ghost use Rattle.producers.specs.Terms.{mostPart, overOf, ksFrom, termsAt, termsOf, withTerms};
 use calendar::ControlDays;
 use calendar::control_days;
+use calendar::in_table;
 use coefficients::bids;
 use coefficients::overuse;
 use coefficients::penalty;
@@ -140,7 +141,7 @@ fn excess_of(summed: Tenths, own: u32, attested: u32) -> Tenths
 fn terms_of(s: &[u8], layout: Layout, p: u8, v: Volumes, control: ControlDays) -> Terms
     requires { ⌜ (layout .header .days ≤ 31) × (hoursAt layout p + hoursWidth (layout .header) ≤ length (now s)) ⌝ }
     requires { ⌜ (v ≡ volumesOf (monthUnder layout (now s)) p) × Fits v ⌝ }
-    requires { ⌜ control .on ≡ listed (controlDay (layout .header)) 31 ⌝ }
+    requires { ⌜ (1 ≤ layout .header .weekday) × (layout .header .weekday ≤ 7) × (control .on ≡ listed (tableDay (layout .header)) 31) ⌝ }
     ensures { λ r. ⌜ r ≡ termsAt (monthUnder layout (now (s .entry))) p 0 ⌝ }
 {
     let x = producer(s, layout, p);
@@ -156,12 +157,14 @@ fn terms_of(s: &[u8], layout: Layout, p: u8, v: Volumes, control: ControlDays) -
     Terms { excess, ks }
 }
 
-// How many producers of a sheet have terms: at most six, and none in a month of more than 31 days or in a sheet that ends too soon.
+// How many producers of a sheet have terms: at most six, and none in a month that the table of control weekdays does not have or in a sheet
+// that ends too soon.
 fn with_terms(s: &[u8], layout: Layout) -> u8
     ensures { λ r. ⌜ (r ≡ withTerms layout (now (s .entry))) × (r ≤ 6)
-        × (0 < r → (layout .header .days ≤ 31) × (r ≤ layout .header .producers) × (sheetLength layout ≤ length (now (s .entry)))) ⌝ }
+        × (0 < r → (layout .header .days ≤ 31) × (r ≤ layout .header .producers) × (sheetLength layout ≤ length (now (s .entry)))
+        × (1 ≤ layout .header .weekday) × (layout .header .weekday ≤ 7)) ⌝ }
 {
-    if (31 < layout.header.days) | (s.len() < sheet_length(layout)) {
+    if !in_table(layout.header) | (s.len() < sheet_length(layout)) {
         0
     } else if layout.header.producers < 6 {
         layout.header.producers
@@ -179,9 +182,9 @@ pub fn all_terms(s: &[u8], layout: Layout) -> AllTerms
         ks: [0; 10],
     };
     let mut all = AllTerms { of: [none; 6] };
+    let control = control_days(layout.header);
     let volumes = row_volumes(s, layout);
     let n = with_terms(s, layout);
-    let control = control_days(layout.header);
     let mut p: u8 = 0;
     while p < n {
         let i = p as usize;

@@ -7,17 +7,22 @@ use Rattle.rules.specs.Range.{sum, when}
 use Rattle.rules.specs.Units.{rounded}
 use Rattle.rules.specs.Month.{Header, hours}
 
--- The weekday of a day, Monday 1 to Sunday 7; 6 days on it is the weekday before. [Control hours; p. 2, 4)]
-unfoldable pub weekdayOn : Header → ℕ → ℕ
-weekdayOn h day = (h .weekday + day + 6) % 7 + 1
+-- The weekday of a day in a month that begins on a weekday, Monday 1 to Sunday 7; 6 days on it is the weekday before.
+-- [Control hours; p. 2, 4)]
+unfoldable pub weekdayOn : ℕ → ℕ → ℕ
+weekdayOn first day = (first + day + 6) % 7 + 1
+
+-- A control weekday: Monday to Friday. [Control hours; Requests, 2; p. 2, 4)]
+unfoldable pub controlWeekday : ℕ → ℕ → Bool
+controlWeekday first day = leb (weekdayOn first day) 5
 
 -- A day whose bit stands in the holidays. [Units and the sheet, Header; p. 2, 4)]
 unfoldable pub holidayOn : Header → ℕ → Bool
 holidayOn h day = eqb (h .holidays / 2 ^ day % 2) 1
 
--- A control day: Monday to Friday, and no holiday. [Control hours; p. 2, 4)]
+-- A control day: a control weekday, and no holiday. [Control hours; p. 2, 4)]
 unfoldable pub controlDay : Header → ℕ → Bool
-controlDay h day = leb (weekdayOn h day) 5 && not (holidayOn h day)
+controlDay h day = controlWeekday (h .weekday) day && not (holidayOn h day)
 
 -- A control hour: one of the six hours 17 to 22 of a control day. [Control hours; p. 2, 4)]
 unfoldable pub controlHour : Header → ℕ → Bool

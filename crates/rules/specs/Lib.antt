@@ -2,6 +2,7 @@ pub mod Range
 pub mod Units
 pub mod Month
 pub mod ControlHours
+pub mod ControlTable
 pub mod Bands
 pub mod Cut
 pub mod Coefficients
@@ -25,3 +26,4 @@ pub mod ListingCase
 pub mod RefusalCases
 pub mod PlaceCases
 pub mod TransferCases
+pub mod TableCases

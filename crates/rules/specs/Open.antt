@@ -1,7 +1,8 @@
 -- Names for sets of definitions: a proof that is to compute says `unfolding settlement` and so opens them all.
-use Rattle.rules.specs.Range.{sum, any, when}
+use Rattle.rules.specs.Range.{sum, any, when, listed}
 use Rattle.rules.specs.Units.{rounded, inMillionths, toTenths, money}
-use Rattle.rules.specs.ControlHours.{weekdayOn, holidayOn, controlDay, controlHour, counted, controlSum, controlCount, average, controlAverage}
+use Rattle.rules.specs.ControlHours.{weekdayOn, controlWeekday, holidayOn, controlDay, controlHour, counted, controlSum, controlCount, average, controlAverage}
+use Rattle.rules.specs.ControlTable.{controlWeekdays, lineOf, says, tableDay, inTable}
 use Rattle.rules.specs.Bands.{bands, factorOf, bandOf, overNothing, thousandths}
 use Rattle.rules.specs.Cut.{owns, support, bilateral, ownVolume, ownSupport, ownBilateral, supportVolume, bilateralVolume, summedCapacity, excess, leftToCut, afterCut}
 use Rattle.rules.specs.Coefficients.{share, millionthsOf, overuse, penalty, lessPenalty, exactK1, k1, k2, asked, met, exactK4, k4, k5, inOrder, coefficients}
@@ -19,7 +20,7 @@ use Rattle.rules.specs.Samples.{month, wrong}
 
 -- From a month to its totals.
 unfoldable pub settlement : Unit {0}
-unfolding sum any when rounded inMillionths toTenths money weekdayOn holidayOn controlDay controlHour counted controlSum controlCount average controlAverage bands factorOf bandOf overNothing thousandths owns support bilateral ownVolume ownSupport ownBilateral supportVolume bilateralVolume summedCapacity excess leftToCut afterCut share millionthsOf overuse penalty lessPenalty exactK1 k1 k2 asked met exactK4 k4 k5 inOrder coefficients running through actual payment credited credit countedPeak overContract percentOf bracket mining volumeOf percent band volume charge totalPaid totalCharged month wrong
+unfolding sum any when rounded inMillionths toTenths money weekdayOn controlWeekday holidayOn controlDay controlHour counted controlSum controlCount average controlAverage bands factorOf bandOf overNothing thousandths owns support bilateral ownVolume ownSupport ownBilateral supportVolume bilateralVolume summedCapacity excess leftToCut afterCut share millionthsOf overuse penalty lessPenalty exactK1 k1 k2 asked met exactK4 k4 k5 inOrder coefficients running through actual payment credited credit countedPeak overContract percentOf bracket mining volumeOf percent band volume charge totalPaid totalCharged month wrong
 settlement = tt
 
 -- From a sheet's bytes to its month, its refusal, and the result's bytes.
@@ -31,3 +32,8 @@ layout = tt
 unfoldable pub transfers : Unit {0}
 unfolding listLength listVersion entries entry badEntry badFront late moved afterEntries overdrawn overdrawnAt listTests turnTests transferTests transferRefusal transferOutcome volumesAfter transferred
 transfers = tt
+
+-- The table of control weekdays.
+unfoldable pub table : Unit {0}
+unfolding listed controlWeekdays lineOf says tableDay inTable
+table = tt

@@ -1,6 +1,7 @@
--- Sums and tests over the places below a count: how every section says "the sum over", "any" and "only where".
+-- Sums, tests and lists over the places below a count: how every section says "the sum over", "any", "only where" and "for each".
 use Prim.Native.Nat.{ℕ, zero, suc, _+_}
 use mathlib.Core.Bool.{Bool, false, cond, _||_}
+use mathlib.Core.List.{List, [], _∷_}
 
 -- f 0 + f 1 + .. + f (n - 1).
 unfoldable pub sum : (ℕ → ℕ) → ℕ → ℕ
@@ -15,3 +16,8 @@ any test (suc n) = any test n || test n
 -- v where the test passes, otherwise nothing.
 unfoldable pub when : Bool → ℕ → ℕ
 when test v = cond test v 0
+
+-- f 0, f 1, .., f (n - 1).
+unfoldable pub listed : {A : Type 0} → (ℕ → A) → ℕ → List A
+listed f zero = []
+listed f (suc n) = f 0 ∷ listed (λ i. f (suc i)) n

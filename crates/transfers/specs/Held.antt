@@ -3,7 +3,7 @@ use Prim.Native.Nat.{ℕ, _≤_, _<_}
 use mathlib.Core.Path.{_≡_}
 use lib.ListN.{length, getD}
 use Rattle.rules.specs.Units.{tenthsCeiling}
-use Rattle.laws.specs.Lists.{listed}
+use Rattle.rules.specs.Range.{listed}
 use Rattle.laws.proofs.Arrays.{filled}
 use Rattle.units.specs.Sums.{tenths}
 use Rattle.transfers.specs.declared.contracts.Volumes.{Volumes}

@@ -2,7 +2,7 @@
 ghost use mathlib.Core.Path.{_≡_};
 ghost use Prim.Native.Nat.{ℕ, _<_};
 ghost use lib.ListN.{getD};
-ghost use Rattle.laws.specs.Lists.{listed};
+ghost use Rattle.rules.specs.Range.{listed};
 ghost use Rattle.volumes.specs.Volumes.{Fits, volumesIn, noVolumes, withRow};
 use places::sheet_length;
 use rules::Layout;

@@ -1,17 +1,23 @@
-use mathlib.Core.Bool.{false}
+use mathlib.Core.Path.{_≡_}
+use mathlib.Core.Bool.{false, not, _&&_}
+use lib.Dec.{eqb}
+use lib.ListN.{getD}
 use Prim.Native.Nat.{_-_, _≤_, zero-le}
 use native.Mathlib.Omega.{arith}
-use Rattle.rules.specs.ControlHours.{controlDay}
+use Rattle.rules.specs.ControlTable.{yes, says, tableDay}
 use Rattle.laws.proofs.Arrays.{Agrees, filled, filled-none, filled-more, filled-all}
 use borrow.Author.Needs.{needs}
 use Rattle.calendar.proofs.control_days.Statement.{statement}
 use Rattle.calendar.proofs.control_days.Tie as tie
 
 abbrev Inv-loop : tie.InvT-loop
-Inv-loop h on₀ day₀ on day = Agrees 31 false (filled false (controlDay h) day) on × (day ≤ 31)
+Inv-loop h line on₀ day₀ on day = Agrees 31 false (filled false (tableDay h) day) on × (day ≤ 31)
 
 abbrev μ-loop : tie.MeasureT-loop
-μ-loop h on₀ day₀ on day = 31 - day
+μ-loop h line on₀ day₀ on day = 31 - day
+
+line-of-requires : tie.Need-line-of-requires Inv-loop μ-loop
+line-of-requires c κs = search needs
 
 loop-holds : tie.Need-loop-holds Inv-loop μ-loop
 loop-holds c = (filled-none 31 false false _, zero-le)
@@ -19,8 +25,11 @@ loop-holds c = (filled-none 31 false false _, zero-le)
 cast-i : tie.Need-cast-i Inv-loop μ-loop
 cast-i c = search needs
 
-control-day-requires : tie.Need-control-day-requires Inv-loop μ-loop
-control-day-requires c κs = search needs
+array-read-on : tie.Need-array-read-on Inv-loop μ-loop
+array-read-on c = search needs
+
+holiday-on-requires : tie.Need-holiday-on-requires Inv-loop μ-loop
+holiday-on-requires c κs = search needs
 
 array-write-on : tie.Need-array-write-on Inv-loop μ-loop
 array-write-on c = search needs
@@ -31,9 +40,16 @@ add-day c = search needs
 loop-less : tie.Need-loop-less Inv-loop μ-loop
 loop-less c = search needs
 
+-- The entry that is read, and the holiday's bit.
+read : (c : tie.After-holiday-on Inv-loop μ-loop)
+    → (eqb (getD (c .before .before .before .line-of .result) (c .before .before .loop .day) 0) yes && not (c .holiday-on .result))
+    ≡ tableDay (c .before .before .before .before .args .h) (c .before .before .loop .day)
+unfolding tableDay says
+read c = rw (c .before .before .before .line-of .ensures, c .holiday-on .ensures)
+
 loop-again : tie.Need-loop-again Inv-loop μ-loop
 loop-again c =
-    (filled-more 31 false false _ _ (omega arith) (c .control-day .ensures) (c .before .before .loop .inv .0), omega arith)
+    (filled-more 31 false false _ _ (omega arith) (read c) (c .before .before .loop .inv .0), omega arith)
 
 returns : tie.Need-returns Inv-loop μ-loop
 returns c = filled-all 31 false false _ (omega arith) (c .before .loop .inv .0)
@@ -44,9 +60,11 @@ control-days-spec =
     (tie.spec
     Inv-loop
     μ-loop
+    line-of-requires
     loop-holds
     cast-i
-    control-day-requires
+    array-read-on
+    holiday-on-requires
     array-write-on
     add-day
     loop-less

@@ -6,8 +6,8 @@ use native.Mathlib.Nat.{le-trans}
 use lib.ListN.{length}
 use Rattle.rules.specs.Sheet.{sheetLength, monthUnder}
 use Rattle.laws.proofs.Sheet.{hours-inside}
-use Rattle.rules.specs.ControlHours.{controlDay}
-use Rattle.laws.specs.Lists.{listed}
+use Rattle.rules.specs.ControlTable.{tableDay}
+use Rattle.rules.specs.Range.{listed}
 use Rattle.laws.proofs.Arrays.{agrees-as, agrees-listed, listed-agrees, filled-none, filled-more}
 use Rattle.volumes.specs.Volumes.{noVolumes}
 use Rattle.volumes.proofs.Turns.{volumes-whole}
@@ -17,17 +17,21 @@ use Rattle.producers.proofs.all_terms.Statement.{statement}
 use Rattle.producers.proofs.all_terms.Tie as tie
 
 abbrev Inv-loop : tie.InvT-loop
-Inv-loop s layout all₀ volumes n control p₀ all p =
+Inv-loop s layout all₀ control volumes n p₀ all p =
     Known (monthUnder layout s) 0 p (all .of)
     × (p ≤ n)
     × (0 < n → VolumesKnown (monthUnder layout s) (volumes .of))
     × (n ≡ withTerms layout s)
     × (n ≤ 6)
-    × (0 < n → (layout .header .days ≤ 31) × (n ≤ layout .header .producers) × (sheetLength layout ≤ length s))
-    × (control .on ≡ listed (controlDay (layout .header)) 31)
+    × (0 < n → (layout .header .days ≤ 31) × (n ≤ layout .header .producers) × (sheetLength layout ≤ length s)
+    × (1 ≤ layout .header .weekday) × (layout .header .weekday ≤ 7))
+    × (control .on ≡ listed (tableDay (layout .header)) 31)
 
 abbrev μ-loop : tie.MeasureT-loop
-μ-loop s layout all₀ volumes n control p₀ all p = n - p
+μ-loop s layout all₀ control volumes n p₀ all p = n - p
+
+control-days-requires : tie.Need-control-days-requires Inv-loop μ-loop
+control-days-requires c κs = search needs
 
 row-volumes-requires : tie.Need-row-volumes-requires Inv-loop μ-loop
 row-volumes-requires c κs = search needs
@@ -35,20 +39,17 @@ row-volumes-requires c κs = search needs
 with-terms-requires : tie.Need-with-terms-requires Inv-loop μ-loop
 with-terms-requires c κs = search needs
 
-control-days-requires : tie.Need-control-days-requires Inv-loop μ-loop
-control-days-requires c κs = search needs
-
 loop-holds : tie.Need-loop-holds Inv-loop μ-loop
 loop-holds c =
-    let n = c .before .with-terms .ensures in
-    let v = c .before .before .row-volumes .ensures in (
+    let n = c .with-terms .ensures in
+    let v = c .before .row-volumes .ensures in (
       filled-none 6 noTerms zeroTerms _,
       zero-le,
       (λ b. (agrees-as 6 noVolumes (λ p q. volumes-whole _ _ (n .2 b .2) p) (listed-agrees (v .0)), v .1)),
       n .0,
       n .1,
       n .2,
-      c .control-days .ensures,
+      c .before .before .control-days .ensures,
     )
 
 cast-i : tie.Need-cast-i Inv-loop μ-loop
@@ -68,7 +69,7 @@ terms-of-requires c κs =
     let p : c .before .before .loop .p < 6 = omega arith in
     let h = c .before .before .before .before .before .before .before .args .layout in (
       (some .0, le-trans (hours-inside h (c .before .before .loop .p) (omega (arith, some .1))) (some .2)),
-      ((volumes .0 .each _ p, volumes .1 _ p), inv .6),
+      ((volumes .0 .each _ p, volumes .1 _ p), (some .3, some .4, inv .6)),
     )
 
 mul-t : tie.Need-mul-t Inv-loop μ-loop
@@ -101,9 +102,9 @@ all-terms-spec =
     (tie.spec
     Inv-loop
     μ-loop
+    control-days-requires
     row-volumes-requires
     with-terms-requires
-    control-days-requires
     loop-holds
     cast-i
     mul-v

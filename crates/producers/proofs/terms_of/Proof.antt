@@ -76,7 +76,7 @@ returns c =
     let sums = rw (u .hour-series .ensures, summed) at (c .before .before .before .before .k4-sums .ensures .0) in
     let fourth = k4-known l s p fits lent (summedCapacity m p) sums (c .before .exact-k4 .ensures) in
     let counted = rw (u .hour-series .ensures) at (c .before .before .before .control-hours .ensures .0) in
-    let first = k1-known l s p fits lent (a .pre .0 .0) (a .pre .1 .1) (a .args .v .support .0) counted x (c .before .before .exact-k1 .ensures .0)
+    let first = k1-known l s p fits lent (a .pre .0 .0) (a .pre .1 .1 .0) (a .pre .1 .1 .1) (a .pre .1 .1 .2) (a .args .v .support .0) counted x (c .before .before .exact-k1 .ensures .0)
     ∙ ap (λ (v : Volumes). exactK1 (l .header) (producerUnder l s p) (v .support .0)) (a .pre .1 .0 .0) in
     let excess = left-stated l s p x summed (u .before .before .excess-of .ensures) in
     rw (ap tenths excess, c .ks-of .ensures ∙ ks-known l s p x first fourth)

@@ -6,7 +6,8 @@ use lib.ListN.{length}
 use borrow.Author.Tests.{leb-true}
 use Rattle.hours.specs.Series.{stands}
 use Rattle.hours.specs.Control.{controlIn}
-use Rattle.hours.proofs.Standing.{told, both}
+use Rattle.laws.proofs.Range.{both}
+use Rattle.hours.proofs.Standing.{told}
 use borrow.Author.Needs.{needs}
 use Rattle.hours.proofs.control.control_hours.Statement.{statement}
 use Rattle.hours.proofs.control.control_hours.Tie as tie

@@ -4,7 +4,8 @@ use Prim.Native.Nat.{_*_, zero-le}
 use lib.ListN.{length}
 use Rattle.hours.specs.Series.{stands}
 use Rattle.hours.specs.Sums.{k4In}
-use Rattle.hours.proofs.Standing.{told, both}
+use Rattle.laws.proofs.Range.{both}
+use Rattle.hours.proofs.Standing.{told}
 use borrow.Author.Needs.{needs}
 use Rattle.hours.proofs.k4.k4_sums.Statement.{statement}
 use Rattle.hours.proofs.k4.k4_sums.Tie as tie
