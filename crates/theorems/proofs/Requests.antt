@@ -1,15 +1,24 @@
 -- The theorems that the requests state, for the auditor: each by name, with its statement. The proofs are in the other files. Assumes nothing.
 use mathlib.Core.Path.{_≡_}
+use mathlib.Core.Bool.{false}
+use mathlib.Core.Logic.{_⊎_, inl, inr}
 use mathlib.Core.List.{List}
-use Prim.Native.Nat.{ℕ, _<_}
+use Prim.Native.Nat.{ℕ, _≤_, _<_}
+use native.Mathlib.Omega.{arith}
+use lib.Dec.{leb}
 use lib.ListN.{length}
 use borrow.Author.Tests.{ne-eqb}
+use Rattle.rules.specs.ControlHours.{weekdayOn, controlWeekday, controlDay}
+use Rattle.rules.specs.ControlTable.{controlWeekdays, lineOf, says, tableDay}
 use Rattle.rules.specs.Fields.{over}
 use Rattle.rules.specs.Sheet.{headerOf, monthOf}
 use Rattle.rules.specs.Result.{resultOf}
 use Rattle.rules.specs.Refusals.{frontTests, headerTests, formTests, figureTests, sheetTests}
 use Rattle.rules.specs.Outcome.{refused, Accepted, bufferAfter}
 use Rattle.rules.specs.Transfers.{contracts, listTests, turnTests, transferTests, transferRefusal, transferOutcome, volumesAfter, transferred, withVolumes}
+use Rattle.laws.proofs.Arrays.{length-listed}
+use Rattle.laws.proofs.ControlTable.{line-length, entry-right, no-weekday, no-day, table-day}
+use Rattle.laws.proofs.Refusals.{limits}
 use Rattle.theorems.specs.Demand1.{First}
 use Rattle.theorems.specs.Demand3.{WorseSheet, NoBetter}
 use Rattle.theorems.specs.Request1.{contractSum, OnlyContracts}
@@ -59,3 +68,29 @@ transfer-same-answer s s′ list room room′ a a′ w = Transfers.same-answer s
 pub transfer-no-better : (s s′ list out out′ : List ℕ) → Accepted s (length out) → Accepted s′ (length out′) → WorseSheet s s′
     → NoBetter (headerOf s) (bufferAfter (transferred s list) out) (bufferAfter (transferred s′ list) out′)
 transfer-no-better = Transfers.no-better
+
+-- Request 2: control days from a table ----------------------------------------------------------------------------------------------
+
+-- The table has a line for each first weekday and 31 entries in each, 217 in all. The constant that the code reads is this table: that is
+-- the contract of control_weekdays in the crate calendar, proved by one test that is computed over all entries at once.
+pub table-size : (length controlWeekdays ≡ 7) × ((first : ℕ) → length (lineOf first) ≡ 31)
+unfolding controlWeekdays
+table-size = (length-listed _ 7, line-length)
+
+-- An entry says yes exactly when its day falls on Monday to Friday: all 217, first weekdays being 1 to 7 and days 0 to 30.
+pub table-right : (first day : ℕ) → 1 ≤ first → first ≤ 7 → day < 31 → says first day ≡ leb (weekdayOn first day) 5
+unfolding controlWeekday
+table-right first day from to within = entry-right first day from to within
+
+-- Where the table has no entry it says no.
+pub table-ends : (first day : ℕ) → (first ≡ 0) ⊎ (7 < first) ⊎ (31 ≤ day) → says first day ≡ false
+table-ends first day (inl none) = no-weekday first day (inl none)
+table-ends first day (inr (inl past)) = no-weekday first day (inr past)
+table-ends first day (inr (inr past)) = no-day first day past
+
+-- So every day of an accepted sheet is a control day by the table exactly when it is one by the rule.
+pub table-control-days : (s : List ℕ) (room : ℕ) → Accepted s room → (day : ℕ) → day < headerOf s .days
+    → tableDay (headerOf s) day ≡ controlDay (headerOf s) day
+table-control-days s room a day l =
+    let h = limits s room a .form .header in
+    table-day (headerOf s) day (h .weekday-from) (h .weekday-to) (omega (arith, h .days-to))

@@ -1,11 +1,11 @@
-use mathlib.Core.Path.{_≡_, refl}
-use mathlib.Core.Logic.{⊎-elim}
+use mathlib.Core.Path.{_≡_}
+use mathlib.Core.Logic.{_⊎_, inl, inr, ⊎-elim}
 use mathlib.Core.List.{List, []}
 use Prim.Native.Nat.{ℕ, suc, _≤_, _<_}
 use native.Mathlib.Nat.{eq-zero-or-pos}
 use native.Mathlib.Omega.{arith}
-use lib.ListN.{getD, replicate}
-use Rattle.rules.specs.ControlTable.{no, controlWeekdays, lineOf}
+use lib.ListN.{getD}
+use Rattle.rules.specs.ControlTable.{controlWeekdays, lineOf}
 use Rattle.laws.proofs.ControlTable.{line-at, line-none}
 use borrow.Author.Needs.{needs}
 use Rattle.calendar.proofs.table.line_of.Statement.{statement}
@@ -21,9 +21,6 @@ next l h = omega arith
 
 past : {n : ℕ} → 1 ≤ n → ((((((Unit {0} × (n ≡ 1 → ⊥)) × (n ≡ 2 → ⊥)) × (n ≡ 3 → ⊥)) × (n ≡ 4 → ⊥)) × (n ≡ 5 → ⊥)) × (n ≡ 6 → ⊥)) × (n ≡ 7 → ⊥) → 7 < n
 past p r = next (next (next (next (next (next (next p (r .0 .0 .0 .0 .0 .0 .1)) (r .0 .0 .0 .0 .0 .1)) (r .0 .0 .0 .0 .1)) (r .0 .0 .0 .1)) (r .0 .0 .1)) (r .0 .1)) (r .1)
-
-no-weekday : replicate 31 no ≡ lineOf 0
-no-weekday = unfold lineOf in refl
 
 control-weekdays-requires : tie.Need-control-weekdays-requires
 control-weekdays-requires c κs = search needs
@@ -72,7 +69,7 @@ returns-7 c = chosen 6 (c .before .before .control-weekdays .ensures) (omega ari
 
 returns-8 : tie.Need-returns-8
 returns-8 c =
-    ⊎-elim (λ z. rw z no-weekday) (λ p. line-none _ (past p (c .match .rest))) (eq-zero-or-pos (c .before .before .args .first))
+    line-none _ (⊎-elim inl (λ p. inr (past p (c .match .rest))) (eq-zero-or-pos (c .before .before .args .first)))
 
 pub line-of-spec : {M : Type 1} → statement M
 line-of-spec =
