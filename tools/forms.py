@@ -87,7 +87,7 @@ def month_lines(answer):
         "contract_volume", "peak", "credit", "percent", "n", "actual_volume", "price", "charge"))]
         for consumer in by_consumer]
     consumers.append(["total charged", *[""] * 7, parted(totals["charged"])])
-    title = ", after ".join([given.title or month_words(given.content), *answer.lists])
+    title = ", after ".join([month_words(given), *answer.lists])
     return [f"{given.name}: {title}", "", *headed(ROW_HEADS, rows, (1, 2)), "",
             *headed(CONSUMER_HEADS, consumers, (0,))]
 
@@ -97,9 +97,10 @@ def headed(heads, lines, left):
     return table_lines(names, [units, *lines], left)
 
 
-def month_words(content):
-    month = Header.from_bytes(content).month
-    return f"{month.days} days from a {WEEKDAYS[month.weekday - 1]}"
+def month_words(given):
+    """As "December 2021", or "31 days from a Wednesday" if that is not known."""
+    month = Header.from_bytes(given.content).month
+    return given.title or f"{month.days} days from a {WEEKDAYS[month.weekday - 1]}"
 
 
 def parted(text):

@@ -22,6 +22,7 @@ SINGLE_BUYER_WORDS = "single buyer"
 VERSION = 1
 RESULT_VERSION = 1    # under every version of the sheet
 LIST_VERSION = 1
+CONTROL_HOURS = range(17, 23)    # of a control day
 
 
 def rounded(figure, divisor):
@@ -156,7 +157,7 @@ class Month(NamedTuple):
         for day in range(self.days):
             working_day = (self.weekday - 1 + day) % 7 < 5
             if working_day and not self.holidays >> day & 1:
-                found.extend(range(24 * day + 17, 24 * day + 23))
+                found.extend(24 * day + hour for hour in CONTROL_HOURS)
         return found
 
 

@@ -227,6 +227,11 @@ def first_refusal(content):
     return next(iter(all_refusals(content)), None)
 
 
+def without_month(content):
+    """What keeps the month of a sheet's header from being known, whatever else is wrong with the sheet."""
+    return [refusal for refusal in form_refusals(content) if refusal.number in (1, 3, 4)]
+
+
 def not_as_text(content):
     """What first keeps a sheet from being written as text without loss, or none."""
     return next((refusal for refusal in form_refusals(content) if refusal.number not in (4, 5)), None)

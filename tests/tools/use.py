@@ -48,6 +48,8 @@ def test_files(folder):
         ("show", ["show", "none.sheet"], "none.sheet: cannot be read: No such file"),
         ("show", ["show", "folder"], "folder: cannot be read: Is a directory"),
         ("explain", ["explain", "none.sheet"], "none.sheet: cannot be read: No such file"),
+        ("calendar", ["calendar", "none.sheet"], "none.sheet: cannot be read: No such file"),
+        ("calendar", ["calendar", ""], ": cannot be read: No such file"),
         ("check", ["check", "none.toml"], "none.toml: cannot be read: No such file"),
         ("check", ["check", "folder"], "folder: cannot be read: Is a directory"),
         ("result", ["result", "none.bin"], "none.bin: cannot be read: No such file"),
@@ -65,7 +67,7 @@ def test_files(folder):
 NOT_A_MONTH = "is a list by its name; give it with its month, as --transfers LIST MONTH"
 NOT_A_LIST = "is a month by its name, and --transfers wants a list"
 KINDS = [
-    *((f"{command} {name}", f"{name}: {NOT_A_MONTH}") for command in ("check", "explain")
+    *((f"{command} {name}", f"{name}: {NOT_A_MONTH}") for command in ("check", "explain", "calendar")
       for name in ("a.list", "a.csv", "A.CSV", ".list")),
     *((f"{command} --transfers {name} a.sheet", f"{name}: {NOT_A_LIST}") for command in ("check", "explain", "show")
       for name in ("a.sheet", "a.toml", "A.Sheet")),
@@ -124,10 +126,10 @@ def test_kinds(folder):
 def test_wrong_use(folder):
     for line in ("", "settle", "pack month.toml", "pack month.toml new more", "pack --forced month.toml new",
                  "pack - new", "unpack", "unpack in.sheet -", "unpack in.sheet --force", "show", "show a b",
-                 "show --transfers - a", "explain", "explain a b", "explain --transfers a", "result",
-                 "result a.bin --sheet", "result a.bin b.bin", "result a.bin --transfers a.list", "check", "check a b",
-                 "check a --transfers", "new", "new 2021", "new 2021-12 - x", "new 2021-12 --rows",
-                 "new 2021-12 --rows -1", "new 1-1 --rows 1.0"):
+                 "show --transfers - a", "calendar a b", "calendar --transfers a b", "explain", "explain a b",
+                 "explain --transfers a", "result", "result a.bin --sheet", "result a.bin b.bin",
+                 "result a.bin --transfers a.list", "check", "check a b", "check a --transfers", "new", "new 2021",
+                 "new 2021-12 - x", "new 2021-12 --rows", "new 2021-12 --rows -1", "new 1-1 --rows 1.0"):
         turned_down(f"wrong use: {line}", folder, line.split(), "usage: tools/sheet", status=2)
 
 
