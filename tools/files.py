@@ -53,7 +53,7 @@ def read_text(path):
     """A text file in UTF-8, with or without a byte order mark."""
     content = read_bytes(path, MOST_TEXT + 1)
     if len(content) > MOST_TEXT:
-        raise Trouble(f"{path}: has more than {MOST_TEXT} bytes, which no text of a month or of a list has")
+        raise Trouble(f"{path}: has more than {MOST_TEXT} bytes, too many for a text")
     try:
         return content.decode("utf-8-sig")
     except UnicodeDecodeError as error:

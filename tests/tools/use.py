@@ -67,8 +67,10 @@ def test_files(folder):
 NOT_A_MONTH = "is a list by its name; give it with its month, as --transfers LIST MONTH"
 NOT_A_LIST = "is a month by its name, and --transfers wants a list"
 KINDS = [
-    *((f"{command} {name}", f"{name}: {NOT_A_MONTH}") for command in ("check", "explain", "calendar")
+    *((f"{command} {name}", f"{name}: {NOT_A_MONTH}") for command in ("check", "explain")
       for name in ("a.list", "a.csv", "A.CSV", ".list")),
+    ("calendar a.list", "a.list: is a packed list by its name, and calendar wants a month"),
+    ("calendar A.CSV", "A.CSV: is a list's text by its name, and calendar wants a month"),
     *((f"{command} --transfers {name} a.sheet", f"{name}: {NOT_A_LIST}") for command in ("check", "explain", "show")
       for name in ("a.sheet", "a.toml", "A.Sheet")),
     ("show --transfers a.list a.list", f"a.list: {NOT_A_MONTH}"),
