@@ -2,13 +2,18 @@
 ghost use mathlib.Core.Path.{_≡_};
 ghost use Rattle.rules.specs.ControlTable.{controlWeekdays, lineOf};
 
+// An entry for each of 31 days; a line for each weekday that a month may begin on, Monday to Sunday.
+pub type Line = [u8; 31];
+
+pub type Table = [Line; 7];
+
 // An entry that says yes, and one that says no.
 pub const YES: u8 = b'y';
 
 const NO: u8 = b'-';
 
-// For each weekday that a month may begin on, Monday to Sunday, its days 1 to 31: those that fall on Monday to Friday say yes.
-const CONTROL_WEEKDAYS: [[u8; 31]; 7] = [
+// The days that fall on Monday to Friday say yes.
+const CONTROL_WEEKDAYS: Table = [
     *b"yyyyy--yyyyy--yyyyy--yyyyy--yyy",
     *b"yyyy--yyyyy--yyyyy--yyyyy--yyyy",
     *b"yyy--yyyyy--yyyyy--yyyyy--yyyyy",
@@ -19,14 +24,14 @@ const CONTROL_WEEKDAYS: [[u8; 31]; 7] = [
 ];
 
 // The table, whole.
-pub fn control_weekdays() -> [[u8; 31]; 7]
+pub fn control_weekdays() -> Table
     ensures { λ r. ⌜ r ≡ controlWeekdays ⌝ }
 {
     CONTROL_WEEKDAYS
 }
 
 // The line of a month that begins on a weekday, Monday 1 to Sunday 7; for any other number no throughout.
-pub fn line_of(first: u8) -> [u8; 31]
+pub fn line_of(first: u8) -> Line
     ensures { λ r. ⌜ r ≡ lineOf first ⌝ }
 {
     let table = control_weekdays();

@@ -1,6 +1,7 @@
 // Prints the seven months of the table of control weekdays as printed calendars have them: a line of weekdays, weeks in lines, and a mark
 // before each day of which the table says yes. It reads the lines that the settlement reads.
 ghost use Prim.Native.Nat.{_≤_};
+use calendar::table::Line;
 use calendar::table::YES;
 use calendar::table::line_of;
 use libc::STDOUT_FILENO;
@@ -51,7 +52,7 @@ fn next_column(column: u8) -> u8 {
 }
 
 // The weeks of a month whose first day stands in column begin, Monday's being 0; line has its entries.
-fn print_weeks(begin: u8, line: [u8; 31]) {
+fn print_weeks(begin: u8, line: Line) {
     let mut column = begin;
     let mut day: u8 = 0;
     while day < 31 {
