@@ -1,6 +1,6 @@
 -- The table of control weekdays, entry by entry: what it says where it has an entry is the weekday rule. Assumes nothing.
 use mathlib.Core.Path.{_≡_, refl, sym, _∙_}
-use mathlib.Core.Bool.{Bool, true, false, not, cond, _&&_}
+use mathlib.Core.Bool.{Bool, true, false, cond, _&&_}
 use mathlib.Core.List.{List}
 use mathlib.Core.Logic.{_⊎_, inl, inr, ⊎-elim}
 use Prim.Native.Nat.{ℕ, zero, suc, _≤_, _<_}
@@ -11,7 +11,7 @@ use borrow.Author.Tests.{le-leb, leb-true, leb-false}
 use lib.ListN.{length, getD, replicate, length-replicate, getD-replicate, List·getD-eq-default}
 use Rattle.rules.specs.declared.Header.{Header}
 use Rattle.rules.specs.Range.{listed}
-use Rattle.rules.specs.ControlHours.{controlWeekday, holidayOn, controlDay}
+use Rattle.rules.specs.ControlHours.{controlWeekday, controlDay}
 use Rattle.rules.specs.ControlTable.{yes, no, controlWeekdays, lineOf, says, tableDay, inTable}
 use Rattle.laws.proofs.Arrays.{length-listed, getD-listed}
 use Rattle.laws.proofs.Range.{both}
@@ -37,7 +37,7 @@ line-none (suc i) (inl e) = absurd (omega arith)
 line-none (suc i) (inr past) =
     sym (List·getD-eq-default (listed (λ i. entries (suc i)) 7) (replicate 31 no) {n = i} (omega (arith, length-listed (λ i. entries (suc i)) 7)))
 
--- Every weekday has a line or none.
+-- A number is a weekday's or none's.
 weekday : (first : ℕ) → ((1 ≤ first) × (first ≤ 7)) ⊎ ((first ≡ 0) ⊎ (7 < first))
 weekday zero = inr (inl refl)
 weekday (suc i) = go (leb (suc i) 7) refl
@@ -46,6 +46,7 @@ weekday (suc i) = go (leb (suc i) 7) refl
     go true e = inl (omega arith, leb-true _ _ e)
     go false e = inr (inr (leb-false _ _ e))
 
+-- A weekday's line is what the rule gives.
 line-is : (first : ℕ) → 1 ≤ first → first ≤ 7 → lineOf first ≡ entries first
 unfolding lineOf
 line-is zero from to = absurd (not-suc-le-zero from)
@@ -57,6 +58,7 @@ line-length first =
     ⊎-elim (λ w. rw (line-is first (w .0) (w .1)) (length-listed (λ day. cond (controlWeekday first day) yes no) 31))
     (λ n. rw (sym (line-none first n)) (length-replicate 31 no)) (weekday first)
 
+-- What was written for a test says the test.
 reads : (b : Bool) → eqb (cond b yes no) yes ≡ b
 reads true = refl
 reads false = refl

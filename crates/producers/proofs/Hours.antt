@@ -1,12 +1,11 @@
 -- k1 and k4 of a producer, from the sums over the stretch of its hours. Assumes nothing.
 use mathlib.Core.Path.{_≡_, refl, sym, ap, ap₂, _∙_}
-use mathlib.Core.Bool.{Bool, true, false, _&&_}
+use mathlib.Core.Bool.{Bool, true, false}
 use mathlib.Core.List.{List}
 use Prim.Native.Nat.{ℕ, _+_, _-_, _*_, _≤_, _<_, min}
 use native.Mathlib.Omega.{arith}
 use borrow.Author.Tests.{le-leb}
 use lib.ListN.{length, take, drop, getD, length-take, length-drop}
-use lib.Dec.{leb}
 use Rattle.rules.specs.declared.Layout.{Layout}
 use Rattle.rules.specs.declared.Ratio.{Ratio}
 use Rattle.rules.specs.declared.Series.{Series}
@@ -15,23 +14,23 @@ use Rattle.rules.specs.Range.{sum, when, listed}
 use Rattle.rules.specs.Month.{hours}
 use Rattle.rules.specs.Sheet.{hoursWidth, hoursAt, producerAt, statedOf, power, hourSeries, producerUnder}
 use Rattle.rules.specs.Outcome.{within}
-use Rattle.rules.specs.ControlHours.{controlDay, controlSum, controlCount, controlAverage, average}
+use Rattle.rules.specs.ControlHours.{controlDay, controlSum, controlCount, controlAverage}
 use Rattle.rules.specs.ControlTable.{tableDay}
-use Rattle.laws.proofs.ControlTable.{table-day}
 use Rattle.rules.specs.Bands.{bandOf, thousandths}
 use Rattle.rules.specs.Coefficients.{ratio, overuse, penalty, lessPenalty, asked, met, exactK1, exactK4}
 use Rattle.laws.proofs.Range.{sum-same}
 use Rattle.laws.proofs.Arrays.{getD-listed}
 use Rattle.laws.proofs.Fields.{read-part}
 use Rattle.laws.proofs.ControlHours.{evening, control-by-day, count-by-day}
+use Rattle.laws.proofs.ControlTable.{table-day}
 use Rattle.units.specs.Sums.{tenths}
 use Rattle.sheet.specs.Whole.{stretchIn}
 use Rattle.sheet.proofs.Whole.{stretch-whole}
 use Rattle.hours.specs.declared.k4.K4.{K4}
 use Rattle.hours.specs.declared.control.Control.{Control}
 use Rattle.hours.specs.Series.{stands, powerIn}
-use Rattle.hours.specs.Sums.{k4Of, k4In}
-use Rattle.hours.specs.Control.{controlOf, controlIn}
+use Rattle.hours.specs.Sums.{k4In}
+use Rattle.hours.specs.Control.{controlIn}
 use Rattle.producers.specs.Terms.{overOf}
 
 module _ (l : Layout) (s : List ℕ) (p : ℕ) (fits : hoursAt l p + hoursWidth (l .header) ≤ length s) {part : List ℕ} (lent : part ≡ within (stretchIn l (length s) p) s) where

@@ -1,6 +1,6 @@
 -- The table of control weekdays against printed calendars, worked out by hand from request 2, and its ends.
 use Prim.Native.Nat.{ℕ, zero, suc}
-use mathlib.Core.Bool.{Bool, cond}
+use mathlib.Core.Bool.{cond}
 use mathlib.Core.List.{List, [], _∷_, _++_}
 use lib.ListN.{length, getD}
 use Rattle.rules.specs.Range.{sum, when}
