@@ -373,7 +373,7 @@ class Tokens:
     def signature(self):
         name = self.name()
         self.take(":")
-        if self.next() == "{":  # a type that is found by itself, as in '{A : Type 0} → List A': nothing is computed of it
+        if self.next() == "{":  # a type that is found by itself, as in '{A : Type 0} → List A', is passed over
             for word in ("{", None, ":", "Type", "0", "}", "→"):
                 self.take(word)
         type_ = self.expression()

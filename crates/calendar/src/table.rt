@@ -12,7 +12,7 @@ pub const YES: u8 = b'y';
 
 const NO: u8 = b'-';
 
-// The days that fall on Monday to Friday say yes.
+// A line for Monday, Tuesday, .., Sunday as day 1; y where the day falls on Monday to Friday.
 const CONTROL_WEEKDAYS: Table = [
     *b"yyyyy--yyyyy--yyyyy--yyyyy--yyy",
     *b"yyyy--yyyyy--yyyyy--yyyyy--yyyy",

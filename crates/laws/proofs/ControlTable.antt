@@ -58,7 +58,7 @@ line-length first =
     ⊎-elim (λ w. rw (line-is first (w .0) (w .1)) (length-listed (λ day. cond (controlWeekday first day) yes no) 31))
     (λ n. rw (sym (line-none first n)) (length-replicate 31 no)) (weekday first)
 
--- What was written for a test says the test.
+-- An entry that was written by a test says what the test says.
 reads : (b : Bool) → eqb (cond b yes no) yes ≡ b
 reads true = refl
 reads false = refl
@@ -87,7 +87,7 @@ pub table-day : (h : Header) (day : ℕ) → 1 ≤ h .weekday → h .weekday ≤
 unfolding tableDay controlDay
 table-day h day from to within = rw (entry-right (h .weekday) day from to within)
 
--- In a month that the table has, and of one.
+-- What holds of a month that the table has, and when it has one.
 module _ (h : Header) where
   pub in-table : inTable h ≡ true → (h .days ≤ 31) × (1 ≤ h .weekday) × (h .weekday ≤ 7)
   unfolding inTable

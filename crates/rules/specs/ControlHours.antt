@@ -7,7 +7,7 @@ use Rattle.rules.specs.Range.{sum, when}
 use Rattle.rules.specs.Units.{rounded}
 use Rattle.rules.specs.Month.{Header, hours}
 
--- The weekday of a day in a month that begins on a weekday, Monday 1 to Sunday 7; 6 days on it is the weekday before.
+-- The weekday of a day in a month that begins on a weekday, Monday 1 to Sunday 7. 6 stands in place of -1: a weekday back is six on.
 -- [Control hours; p. 2, 4)]
 unfoldable pub weekdayOn : ℕ → ℕ → ℕ
 weekdayOn first day = (first + day + 6) % 7 + 1

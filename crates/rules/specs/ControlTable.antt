@@ -16,23 +16,23 @@ yes = 121
 abbrev pub no : ℕ
 no = 45
 
--- The table: a line of 31 entries for each first weekday, Monday to Sunday; 217 entries in all. [Requests, 2]
+-- The table: a line of 31 entries for each first weekday, Monday to Sunday; 217 entries in all.
 unfoldable pub controlWeekdays : List (List ℕ)
 controlWeekdays = listed (λ i. listed (λ day. cond (controlWeekday (suc i) day) yes no) 31) 7
 
--- The line of a first weekday; outside Monday 1 to Sunday 7 the table has none, and each entry says no. [Requests, 2]
+-- The line of a first weekday; outside Monday 1 to Sunday 7 the table has none, and each entry says no.
 unfoldable pub lineOf : ℕ → List ℕ
 lineOf zero = replicate 31 no
 lineOf (suc i) = getD controlWeekdays i (replicate 31 no)
 
--- What the table says of a day; past a line's end nothing stands, which is no. [Requests, 2]
+-- What the table says of a day; past a line's end nothing stands, which is no.
 unfoldable pub says : ℕ → ℕ → Bool
 says first day = eqb (getD (lineOf first) day 0) yes
 
--- A control day as it is read: yes in the table, and no holiday. [Requests, 2; Control hours]
+-- A control day as it is read: yes in the table, and no holiday. [Control hours]
 unfoldable pub tableDay : Header → ℕ → Bool
 tableDay h day = says (h .weekday) day && not (holidayOn h day)
 
--- A month that the table has: it begins on Monday 1 to Sunday 7 and has at most 31 days. [Requests, 2]
+-- A month that the table has: it begins on Monday 1 to Sunday 7 and has at most 31 days.
 unfoldable pub inTable : Header → Bool
 inTable h = leb 1 (h .weekday) && leb (h .weekday) 7 && leb (h .days) 31

@@ -16,23 +16,23 @@ unfoldable pub daysOff : ℕ → ℕ → List ℕ
 daysOff first zero = []
 daysOff first (suc day) = daysOff first day ++ cond (says first day) [] (suc day ∷ [])
 
--- The Saturdays and Sundays of seven months, as the calendar of 2021 prints them: March begins on a Monday, June on a Tuesday, September
--- on a Wednesday, April on a Thursday, January on a Friday, May on a Saturday, August on a Sunday. June, September and April lack the 31st.
+-- The Saturdays and Sundays of seven months of 31 days, as printed calendars have them: March 2021 begins on a Monday, March 2022 on a
+-- Tuesday, and of 2021 December on a Wednesday, July on a Thursday, January on a Friday, May on a Saturday, August on a Sunday.
 pub march-2021 : daysOff 1 31 ≡ 6 ∷ 7 ∷ 13 ∷ 14 ∷ 20 ∷ 21 ∷ 27 ∷ 28 ∷ []
 unfolding settlement table daysOff
 march-2021 = refl
 
-pub june-2021 : daysOff 2 30 ≡ 5 ∷ 6 ∷ 12 ∷ 13 ∷ 19 ∷ 20 ∷ 26 ∷ 27 ∷ []
+pub march-2022 : daysOff 2 31 ≡ 5 ∷ 6 ∷ 12 ∷ 13 ∷ 19 ∷ 20 ∷ 26 ∷ 27 ∷ []
 unfolding settlement table daysOff
-june-2021 = refl
+march-2022 = refl
 
-pub september-2021 : daysOff 3 30 ≡ 4 ∷ 5 ∷ 11 ∷ 12 ∷ 18 ∷ 19 ∷ 25 ∷ 26 ∷ []
+pub december-2021 : daysOff 3 31 ≡ 4 ∷ 5 ∷ 11 ∷ 12 ∷ 18 ∷ 19 ∷ 25 ∷ 26 ∷ []
 unfolding settlement table daysOff
-september-2021 = refl
+december-2021 = refl
 
-pub april-2021 : daysOff 4 30 ≡ 3 ∷ 4 ∷ 10 ∷ 11 ∷ 17 ∷ 18 ∷ 24 ∷ 25 ∷ []
+pub july-2021 : daysOff 4 31 ≡ 3 ∷ 4 ∷ 10 ∷ 11 ∷ 17 ∷ 18 ∷ 24 ∷ 25 ∷ 31 ∷ []
 unfolding settlement table daysOff
-april-2021 = refl
+july-2021 = refl
 
 pub january-2021 : daysOff 5 31 ≡ 2 ∷ 3 ∷ 9 ∷ 10 ∷ 16 ∷ 17 ∷ 23 ∷ 24 ∷ 30 ∷ 31 ∷ []
 unfolding settlement table daysOff
@@ -62,8 +62,9 @@ has days first = when (inTable (header days first 0)) 1
 
 unfoldable pub tableCases : List Figure
 tableCases =
-    -- 28 days are four weeks, with 20 control weekdays; days 29 to 31 fall on the first weekday and the two after it:
-    -- Monday, Tuesday and Wednesday are three more; Thursday, Friday, Saturday two; Friday, Saturday, Sunday one; Sunday, Monday, Tuesday two
+    -- 28 days are four weeks, with 20 control weekdays; days 29 to 31 fall on the first weekday and the two after it: from Monday,
+    -- Tuesday and Wednesday all three count; from Thursday two, the third being a Saturday; from Friday the Friday alone; from Saturday the
+    -- Monday alone; from Sunday two
     figure (control (header 31 1 0)) 23
     ∷ figure (control (header 31 2 0)) 23
     ∷ figure (control (header 31 3 0)) 23

@@ -14,7 +14,7 @@ fn end_line() {
     print(b"\n");
 }
 
-// A day in four columns, with a mark if it is a control weekday.
+// A day in four characters, with a mark if it is a control weekday.
 fn cell(day: u8, marked: bool) -> [u8; 4] {
     let mark = if marked { b'*' } else { b' ' };
     if day < 10 {
@@ -29,15 +29,15 @@ fn print_day(day: u8, marked: bool) {
     print(&text);
 }
 
-fn print_no_day() {
+fn print_blank() {
     print(b"    ");
 }
 
-// The columns before the month's first day.
-fn print_no_days(columns: u8) {
+// Under the weekdays before the month's first day.
+fn print_blanks(count: u8) {
     let mut i: u8 = 0;
-    while i < columns {
-        print_no_day();
+    while i < count {
+        print_blank();
         i += 1;
     }
 }
@@ -72,7 +72,7 @@ fn print_month(first: u8, name: &[u8])
     print(b"\nA month that begins on ");
     print(name);
     print(b"\n  Mo  Tu  We  Th  Fr  Sa  Su\n");
-    print_no_days(first - 1);
+    print_blanks(first - 1);
     print_weeks(first - 1, line_of(first));
 }
 
