@@ -1,6 +1,6 @@
 { Exact numbers for the settlement: whole numbers not below 0, and fractions of
   two such numbers. A fraction is never shortened and never rounded, except by
-  RoundedHalfUp, which the settlement calls only where document 01 says so. }
+  RoundedHalfUp, which is called only where the papers say so. }
 unit exact;
 
 {$mode objfpc}{$H+}{$R+}{$Q+}

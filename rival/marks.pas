@@ -18,6 +18,8 @@ function RefusalMark(Refusal: Integer): string;
 { Adds a mark to a line that does not have it yet. }
 procedure AddMark(var Line: string; const Mark: string);
 
+function NumberText(Value: Int64): string;
+
 implementation
 
 const

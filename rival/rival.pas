@@ -1,12 +1,12 @@
-{ The rival: a second reading of document 01 and of request 1 of document 02, to
-  compare a proved program with. See README.md for its commands. }
+{ The rival: a second reading of document 01 and of requests 1 and 3 of document 02,
+  to compare a proved program with. See README.md for its commands. }
 program rival;
 
 {$mode objfpc}{$H+}{$R+}{$Q+}
 
 uses
-  SysUtils, sheets, refusals, settlements, results, transfers, listings, traces, marks,
-  transfermarks, bytefiles;
+  SysUtils, sheets, refusals, settlements, results, transfers, complexes, listings, traces,
+  marks, transfermarks, complexmarks, bytefiles;
 
 const
   MostBytesListed = 65536;    { section Listing: what is handed over of a longer input }
@@ -21,11 +21,14 @@ const
   StatusWrongUse = 2;
 
 var
-  { One sheet at a time, with its settlement or with a list and what came of it. }
+  { One sheet at a time, with its settlement, or with a list of transfers or one
+    complex's record and what came of it. }
   Sheet: TSheet;
   Settlement: TSettlement;
   List: TTransferList;
   Transferred: TTransferOutcome;
+  Complex: TComplex;
+  Averaged: TComplexOutcome;
 
 { Tries the numbers 1 to 6 and, when none applies, reads the sheet into the records. }
 function ReadSheet(const Bytes: TByteSequence): Integer;
@@ -46,18 +49,43 @@ begin
   Settle(Sheet, Settlement);
 end;
 
-{ The same for a sheet with a list of transfers. There is no result buffer, so the
-  numbers are 1 to 12 save 7, and then the list's, 13 to 15. The records of the
-  sheet stay as they were before the list. }
-function AnswerToTransfers(const Bytes, ListBytes: TByteSequence): Integer;
+{ The sheet's own numbers where it is to be changed: there is no result buffer, so
+  they are 1 to 12 save 7. }
+function RefusalOfSheet(const Bytes: TByteSequence): Integer;
 begin
   Result := ReadSheet(Bytes);
+  if Result = NotRefused then Result := RefusalByFigures(Sheet);
+end;
+
+type
+  { Changes a sheet by what a second buffer holds. Gives the refusal's number, or
+    NotRefused and the sheet's bytes afterwards. The records of the sheet stay as they
+    were before. }
+  TChange = function(const Bytes, SecondBytes: TByteSequence;
+    out Changed: TByteSequence): Integer;
+
+{ By a list of transfers, with the numbers 13 to 15. }
+function ChangeByTransfers(const Bytes, SecondBytes: TByteSequence;
+  out Changed: TByteSequence): Integer;
+begin
+  Result := RefusalOfSheet(Bytes);
   if Result <> NotRefused then Exit;
-  Result := RefusalByFigures(Sheet);
-  if Result <> NotRefused then Exit;
-  ReadTransferList(ListBytes, List);
+  ReadTransferList(SecondBytes, List);
   ApplyTransfers(Sheet, List, Transferred);
+  Changed := SheetBytesAfter(Bytes, Sheet.Header, Transferred);
   Result := Transferred.Refusal;
+end;
+
+{ By one complex's record, with the numbers 16 and 17. }
+function ChangeByAverage(const Bytes, SecondBytes: TByteSequence;
+  out Changed: TByteSequence): Integer;
+begin
+  Result := RefusalOfSheet(Bytes);
+  if Result <> NotRefused then Exit;
+  ReadComplex(SecondBytes, Complex);
+  TakePeak(Sheet.Header, Complex, Averaged);
+  Changed := SheetBytesWithPeak(Bytes, Sheet.Header, Complex, Averaged);
+  Result := Averaged.Refusal;
 end;
 
 function FileBytes(const Name: string; Limit: Int64): TByteSequence;
@@ -122,15 +150,16 @@ begin
     PrintBytes(ResultBytes(Sheet, Settlement));
 end;
 
-procedure TransferInSheet(const Bytes, ListBytes: TByteSequence);
+procedure ChangeSheet(Change: TChange; const Bytes, SecondBytes: TByteSequence);
 var
   Refusal: Integer;
+  Changed: TByteSequence;
 begin
-  Refusal := AnswerToTransfers(Bytes, ListBytes);
+  Refusal := Change(Bytes, SecondBytes, Changed);
   if Refusal <> NotRefused then
     WriteLn('refusal ', Refusal)
   else
-    PrintBytes(SheetBytesAfter(Bytes, Sheet.Header, Transferred));
+    PrintBytes(Changed);
 end;
 
 { --------------------------------------------------------------- many sheets }
@@ -175,15 +204,15 @@ begin
   Result := True;
 end;
 
-{ A case with a list: where the other has the buffer's length stands the list's, and
-  the list follows the sheet. }
-function NextTransferCase(var Source: file; out Bytes, ListBytes: TByteSequence): Boolean;
+{ A case with a second buffer, a list or a record: where the other has the result
+  buffer's length stands that of the second, and its bytes follow the sheet's. }
+function NextCaseOfTwo(var Source: file; out Bytes, SecondBytes: TByteSequence): Boolean;
 var
-  ListLength: Int64;
+  SecondLength: Int64;
 begin
-  ListBytes := nil;
-  Result := NextCase(Source, Bytes, ListLength);
-  if Result then ListBytes := PartOfCase(Source, ListLength);
+  SecondBytes := nil;
+  Result := NextCase(Source, Bytes, SecondLength);
+  if Result then SecondBytes := PartOfCase(Source, SecondLength);
 end;
 
 procedure WriteAnswer(var Target: file; Kind: Byte; Figure: Int64; const Bytes: TByteSequence);
@@ -225,6 +254,14 @@ begin
     Result := RefusalMark(Refusal);
 end;
 
+function AverageMarks(Refusal: Integer): string;
+begin
+  if Refusal in RecordNumbers + [NotRefused] then
+    Result := ComplexMarksText(Sheet, Complex, Averaged)
+  else
+    Result := RefusalMark(Refusal);
+end;
+
 type
   { Answers the next case: a refusal's number, or NotRefused and the bytes. False at
     the file's end. }
@@ -243,14 +280,23 @@ begin
   if Refusal = NotRefused then Answer := ResultBytes(Sheet, Settlement);
 end;
 
-function TransferNext(var Source: file; out Refusal: Integer; out Answer: TByteSequence): Boolean;
+function ChangeNext(var Source: file; Change: TChange; out Refusal: Integer;
+  out Answer: TByteSequence): Boolean;
 var
-  Bytes, ListBytes: TByteSequence;
+  Bytes, SecondBytes: TByteSequence;
 begin
-  Result := NextTransferCase(Source, Bytes, ListBytes);
-  if not Result then Exit;
-  Refusal := AnswerToTransfers(Bytes, ListBytes);
-  if Refusal = NotRefused then Answer := SheetBytesAfter(Bytes, Sheet.Header, Transferred);
+  Result := NextCaseOfTwo(Source, Bytes, SecondBytes);
+  if Result then Refusal := Change(Bytes, SecondBytes, Answer);
+end;
+
+function TransferNext(var Source: file; out Refusal: Integer; out Answer: TByteSequence): Boolean;
+begin
+  Result := ChangeNext(Source, @ChangeByTransfers, Refusal, Answer);
+end;
+
+function AverageNext(var Source: file; out Refusal: Integer; out Answer: TByteSequence): Boolean;
+begin
+  Result := ChangeNext(Source, @ChangeByAverage, Refusal, Answer);
 end;
 
 { Writes the answers or, if MarksOf is given, the marks. }
@@ -286,6 +332,9 @@ begin
   WriteLn(StdErr, '       rival transfer SHEET LIST  the changed sheet''s bytes in hex');
   WriteLn(StdErr, '       rival transfers IN OUT     the changed sheets of many cases');
   WriteLn(StdErr, '       rival transfermarks IN OUT the corners many lists reach');
+  WriteLn(StdErr, '       rival average SHEET RECORD the changed sheet''s bytes in hex');
+  WriteLn(StdErr, '       rival averages IN OUT      the changed sheets of many cases');
+  WriteLn(StdErr, '       rival averagemarks IN OUT  the corners many records reach');
   Halt(StatusWrongUse);
 end;
 
@@ -328,11 +377,19 @@ begin
   else if (Command = 'marks') and (ParamCount = 3) then
     AnswerCases(ParamStr(2), ParamStr(3), @SettleNext, @SheetMarks)
   else if (Command = 'transfer') and (ParamCount = 3) then
-    TransferInSheet(FileBytes(ParamStr(2), NoLimit), FileBytes(ParamStr(3), NoLimit))
+    ChangeSheet(@ChangeByTransfers, FileBytes(ParamStr(2), NoLimit),
+      FileBytes(ParamStr(3), NoLimit))
   else if (Command = 'transfers') and (ParamCount = 3) then
     AnswerCases(ParamStr(2), ParamStr(3), @TransferNext, nil)
   else if (Command = 'transfermarks') and (ParamCount = 3) then
     AnswerCases(ParamStr(2), ParamStr(3), @TransferNext, @TransferMarks)
+  else if (Command = 'average') and (ParamCount = 3) then
+    ChangeSheet(@ChangeByAverage, FileBytes(ParamStr(2), NoLimit),
+      FileBytes(ParamStr(3), NoLimit))
+  else if (Command = 'averages') and (ParamCount = 3) then
+    AnswerCases(ParamStr(2), ParamStr(3), @AverageNext, nil)
+  else if (Command = 'averagemarks') and (ParamCount = 3) then
+    AnswerCases(ParamStr(2), ParamStr(3), @AverageNext, @AverageMarks)
   else
     WrongUse;
 end;

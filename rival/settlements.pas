@@ -77,6 +77,9 @@ procedure Settle(const Sheet: TSheet; out Settlement: TSettlement);
 
 implementation
 
+uses
+  controlhours;
+
 type
   TBand = record
     UpTo: Int64;   { thousandths, the band's own upper edge }
@@ -87,9 +90,6 @@ const
   Million = 1000000;           { 1 as a coefficient; also millionths in a megawatt }
   MillionthsInTenth = 100000;
   TenthsInMegawatt = 10;
-  FirstControlHour = 17;
-  LastControlHour = 22;
-  Friday = 5;
 
   BandTable: array[TBandNumber] of TBand = (
     (UpTo: 50; Factor: 0),
@@ -102,7 +102,8 @@ const
 
 { --------------------------------------------------------------- rounding }
 
-{ The only place where a fraction becomes a whole unit. }
+{ The only place here where a fraction becomes a whole unit. The control average comes
+  rounded from controlhours.pas. }
 function Rounded(Figure: TRoundedFigure; const Value: TFraction; var Ties: TTies): QWord;
 var
   ExactHalf: Boolean;
@@ -149,37 +150,28 @@ end;
 
 { ----------------------------------------------------------- control hours }
 
-{ Section Control hours: Monday to Friday without the holidays. }
-function IsControlDay(const Header: THeader; Day: Integer): Boolean;
+function OutsideUseOf(const Producer: TProducer; H: Int64): TPowers;
 var
-  Weekday: Integer;
-  IsHoliday: Boolean;
+  Hour: Integer;
 begin
-  Weekday := (Header.FirstWeekday - 1 + Day - 1) mod 7 + 1;
-  IsHoliday := (Header.Holidays shr (Day - 1)) and 1 = 1;
-  Result := (Weekday <= Friday) and not IsHoliday;
+  Result := nil;
+  SetLength(Result, H);
+  for Hour := 0 to H - 1 do
+    Result[Hour] := Producer.Hours[Hour].OutsideUse;
 end;
 
-procedure TakeControlAverage(const Sheet: TSheet; const Producer: TProducer;
+{ Section Control hours: the control average of outside use. }
+procedure TakeControlAverage(const Header: THeader; const Producer: TProducer;
   var Figures: TProducerFigures; var Ties: TTies);
 var
-  Day, Hour: Integer;
+  Average: TAverage;
 begin
-  Figures.ControlHours := 0;
-  Figures.ControlSum := 0;
-  for Day := 1 to Sheet.Header.Days do
-    if IsControlDay(Sheet.Header, Day) then
-      for Hour := FirstControlHour to LastControlHour do
-      begin
-        Figures.ControlHours := Figures.ControlHours + 1;
-        Figures.ControlSum := Figures.ControlSum
-          + Producer.Hours[(Day - 1) * HoursInDay + Hour].OutsideUse;
-      end;
-  if Figures.ControlHours = 0 then
-    Figures.ControlAverage := 0
-  else
-    Figures.ControlAverage := Rounded(figAverage,
-      Whole(Figures.ControlSum) / Whole(Figures.ControlHours), Ties);
+  Average := AverageOver(ControlHoursOf(Header),
+    OutsideUseOf(Producer, HoursInMonth(Header)));
+  Figures.ControlHours := Average.Hours;
+  Figures.ControlSum := Average.Sum;
+  Figures.ControlAverage := Average.Figure;
+  if Average.ExactHalf then Include(Ties, figAverage);
 end;
 
 { --------------------------------------------------------------------- cut }
@@ -370,8 +362,8 @@ begin
   begin
     TakeSums(Sheet, Number, Settlement.Producers[Number]);
     CutRows(Sheet, Number, Settlement.Producers[Number].Excess, Settlement);
-    TakeControlAverage(Sheet, Sheet.Producers[Number], Settlement.Producers[Number],
-      Settlement.Ties);
+    TakeControlAverage(Sheet.Header, Sheet.Producers[Number],
+      Settlement.Producers[Number], Settlement.Ties);
     TakeK1(Sheet.Producers[Number], Settlement.Producers[Number], Settlement.Ties);
     TakeK2(Sheet.Producers[Number], H, Settlement.Producers[Number], Settlement.Ties);
     TakeK4(Sheet.Producers[Number], H, Settlement.Producers[Number], Settlement.Ties);

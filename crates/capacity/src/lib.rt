@@ -5,7 +5,9 @@ ghost use Prim.Native.Nat.{_<_};
 ghost use Rattle.rules.specs.Outcome.{outcome, bufferAfter};
 ghost use Rattle.rules.specs.Said.{said};
 ghost use Rattle.rules.specs.Transfers.{transferOutcome, transferred};
+ghost use Rattle.rules.specs.Averaging.{averageOutcome, averaged};
 ghost use Rattle.capacity.specs.InC.{inC, counted, countEnd};
+use averaging::average;
 use rules::Answer;
 use settlement::settle;
 use transfers::transfer;
@@ -37,4 +39,13 @@ pub extern "C" fn capacity_transfer(sheet: &mut [u8], list: &[u8]) -> i64
     ensures sheet { λ r. ⌜ now (sheet .exit) ≡ transferred (now (sheet .entry)) (now (list .entry)) ⌝ }
 {
     in_c(transfer(sheet, list))
+}
+
+// The peak of an industrial complex, written into a sheet: 0, or minus the refusal's number.
+#[no_mangle]
+pub extern "C" fn capacity_average(sheet: &mut [u8], record: &[u8]) -> i64
+    ensures { λ r. ⌜ r ≡ inC (averageOutcome (now (sheet .entry)) (now (record .entry))) ⌝ }
+    ensures sheet { λ r. ⌜ now (sheet .exit) ≡ averaged (now (sheet .entry)) (now (record .entry)) ⌝ }
+{
+    in_c(average(sheet, record))
 }

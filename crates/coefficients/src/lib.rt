@@ -1,21 +1,11 @@
 // The parts of a producer's coefficients, on plain numbers.
 ghost use mathlib.Core.Path.{_≡_};
 ghost use Prim.Native.Nat.{_-_, _*_, max};
-ghost use Rattle.rules.specs.ControlHours.{average};
 ghost use Rattle.rules.specs.Bands.{bandOf, thousandths};
 ghost use Rattle.rules.specs.Coefficients.{share};
 use bands::factor;
 use bands::thousandths;
-use units::Tenths;
-use units::nearest;
 use units::share;
-
-// D of k1.
-pub fn overuse(counted: Tenths, count: u64, deductible: Tenths) -> Tenths
-    ensures { λ r. ⌜ r .0 ≡ average (counted .0) count - deductible .0 ⌝ }
-{
-    Tenths(nearest(counted.0, count)).less(deductible)
-}
 
 // n × D of k1, in hundredths of a megawatt.
 pub fn penalty(over: u32, deductible: u32) -> u64

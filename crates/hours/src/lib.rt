@@ -4,6 +4,8 @@ mod k4;
 mod series;
 
 pub use control::Control;
+pub use control::average_less;
 pub use control::control_hours;
 pub use k4::K4;
 pub use k4::k4_sums;
+pub use series::Hourly;

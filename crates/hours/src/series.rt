@@ -1,10 +1,12 @@
 // The powers of a series in a lent part.
 ghost use mathlib.Core.Path.{_≡_};
-ghost use Prim.Native.Nat.{_+_, _<_};
+ghost use Prim.Native.Nat.{_+_, _<_, _≤_};
 ghost use lib.ListN.{length};
-ghost use Rattle.hours.specs.Series.{stands, Stands, powerIn};
+ghost use Rattle.laws.specs.Bounds.{mostWord};
+ghost use Rattle.hours.specs.Series.{stands, Stands, powerIn, hourlyStands, HourlyStands, hourlyIn};
 use fields::word;
 use rules::Series;
+use units::Tenths;
 
 // So many powers of a series stand in the part.
 pub(crate) fn stands(part: &[u8], x: Series, count: u16) -> bool
@@ -22,4 +24,33 @@ pub(crate) fn power(part: &[u8], x: Series, i: usize) -> u32
     let at = (x.start as usize) + (x.step as usize) * i;
     let end = at + 4;
     word(&part[at..end], 0)
+}
+
+// What a part says of each hour: the power of a series, or the power of one series less that of another, not below 0.
+pub enum Hourly {
+    Power(Series),
+    Net(Series, Series),
+}
+
+// The powers of so many hours stand in the part.
+pub(crate) fn hourly_stands(part: &[u8], x: Hourly, count: u16) -> bool
+    ensures { λ r. ⌜ r ≡ hourlyStands (length (now (part .entry))) x count ⌝ }
+{
+    match x {
+        Hourly::Power(of) => stands(part, of, count),
+        Hourly::Net(of, taken) => stands(part, of, count) & stands(part, taken, count),
+    }
+}
+
+// What the part says of hour i.
+pub(crate) fn figure_at(part: &[u8], x: Hourly, i: usize) -> Tenths
+    requires { ⌜ HourlyStands (now part) x (i + 1) × (i < 65536) ⌝ }
+    ensures { λ r. ⌜ (r .0 ≡ hourlyIn (now (part .entry)) x i) × (r .0 ≤ mostWord) ⌝ }
+{
+    match x {
+        Hourly::Power(of) => Tenths::stated(power(part, of, i)),
+        Hourly::Net(of, taken) => {
+            Tenths::stated(power(part, of, i)).less(Tenths::stated(power(part, taken, i)))
+        }
+    }
 }

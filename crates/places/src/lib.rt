@@ -1,7 +1,7 @@
 // Where the records of a sheet stand, and how long the sheet and its result are. No other crate knows how wide a record of the sheet is.
 ghost use mathlib.Core.Path.{_≡_};
 ghost use Prim.Native.Nat.{_≤_};
-ghost use Rattle.rules.specs.Sheet.{hoursWidth, producerAt, hoursAt, hourSeries, rowAt, consumerAt, contractAt, sheetLength};
+ghost use Rattle.rules.specs.Sheet.{hoursWidth, producerAt, hoursAt, hourSeries, rowAt, consumerAt, contractAt, peakAt, sheetLength};
 ghost use Rattle.rules.specs.Result.{resultLength};
 use rules::Header;
 use rules::HourSeries;
@@ -59,6 +59,13 @@ pub fn contract_at(layout: Layout, c: u8) -> usize
     ensures { λ r. ⌜ (r ≡ contractAt layout c) × (r ≤ 20006375) ⌝ }
 {
     consumer_at(layout, c)
+}
+
+// Where consumer c's peak stands.
+pub fn peak_at(layout: Layout, c: u8) -> usize
+    ensures { λ r. ⌜ (r ≡ peakAt layout c) × (r ≤ 20006379) ⌝ }
+{
+    consumer_at(layout, c) + 4
 }
 
 // The length that version, month and counts ask of the sheet.

@@ -14,11 +14,12 @@ use calendar::ControlDays;
 use calendar::control_days;
 use calendar::in_table;
 use coefficients::bids;
-use coefficients::overuse;
 use coefficients::penalty;
 use coefficients::plans;
 use hours::Control;
+use hours::Hourly;
 use hours::K4;
+use hours::average_less;
 use hours::control_hours;
 use hours::k4_sums;
 use places::hour_series;
@@ -71,7 +72,7 @@ fn exact_k1(control: Control, deductible: u32, support: Tenths) -> Ratio
     ensures { λ r. ⌜ (r ≡ lessPenalty (support .0) (bandOf (thousandths (overOf control deductible) deductible) * overOf control deductible))
         × (r .part ≤ mostPart) ⌝ }
 {
-    let over = overuse(control.counted, control.count, Tenths::stated(deductible));
+    let over = average_less(control, Tenths::stated(deductible));
     less_penalty(support, penalty(over.0 as u32, deductible))
 }
 
@@ -151,7 +152,7 @@ fn terms_of(s: &[u8], layout: Layout, p: u8, v: Volumes, control: ControlDays) -
     let of = hour_series(layout);
     let days = layout.header.days;
     let sums = k4_sums(hours, of.working, of.possible, days, summed);
-    let counted = control_hours(hours, of.outside, days, control);
+    let counted = control_hours(hours, Hourly::Power(of.outside), days, control);
     let k1 = exact_k1(counted, x.deductible, v.support);
     let ks = ks_of(layout.header, x, k1, exact_k4(sums));
     Terms { excess, ks }

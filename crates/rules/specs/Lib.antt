@@ -18,6 +18,8 @@ pub mod Outcome
 pub mod Said
 pub mod TransferList
 pub mod Transfers
+pub mod ComplexRecord
+pub mod Averaging
 pub mod Samples
 pub mod Open
 pub mod CheckedMonths
@@ -27,3 +29,4 @@ pub mod RefusalCases
 pub mod PlaceCases
 pub mod TransferCases
 pub mod TableCases
+pub mod AveragingCases

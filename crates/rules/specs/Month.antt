@@ -38,3 +38,7 @@ pub record Month : Type 0 where
 -- H, the hours of the month. [Coefficients]
 abbrev pub hours : Header → ℕ
 hours h = 24 * h .days
+
+-- The month with other consumers. [Requests, 1 and 3]
+abbrev pub withConsumers : Month → (ℕ → Consumer) → Month
+withConsumers m consumer = record { header = m .header; producer = m .producer; row = m .row; consumer = consumer }

@@ -10,12 +10,14 @@ use Rattle.rules.specs.Rows.{running, through, actual, payment}
 use Rattle.rules.specs.Consumers.{credited, credit, countedPeak, overContract, percentOf, bracket, mining, volumeOf, percent, band, volume, charge}
 use Rattle.rules.specs.Totals.{totalPaid, totalCharged}
 use Rattle.rules.specs.Fields.{bigEndian, bytesOf, laid, widthOf, joined, over, overAt}
-use Rattle.rules.specs.Sheet.{lengthField, version, producerAt, hoursAt, power, rowAt, consumerAt, sheetLength, withContracts}
+use Rattle.rules.specs.Sheet.{lengthField, version, producerAt, hoursAt, power, rowAt, consumerAt, sheetLength, withContracts, withPeak}
 use Rattle.rules.specs.Result.{resultLength, rowRecord, consumerRecord, resultOf}
 use Rattle.rules.specs.Refusals.{oneOf, badMonth, tooMany, badShare, tooHigh, highHour, highProducer, highRow, highConsumer, badReference, tooDear, badFactor, frontTests, headerTests, formTests, roomTests, figureTests, sheetTests, tests, applies, firstOf, refusal}
-use Rattle.rules.specs.Outcome.{outcome, bufferAfter}
+use Rattle.rules.specs.Outcome.{outcome, bufferAfter, done, sheetAfter}
 use Rattle.rules.specs.TransferList.{listLength, listVersion, entries, entry}
 use Rattle.rules.specs.Transfers.{badEntry, badFront, late, moved, afterEntries, overdrawn, overdrawnAt, listTests, turnTests, transferTests, transferRefusal, transferOutcome, volumesAfter, transferred}
+use Rattle.rules.specs.ComplexRecord.{recordLength, complex, imported, drawn, sent}
+use Rattle.rules.specs.Averaging.{badRecord, highAt, highRecord, net, complexPeak, recordTests, averageTests, averageRefusal, averageOutcome, peakWritten, averaged}
 use Rattle.rules.specs.Samples.{month, wrong}
 
 -- From a month to its totals.
@@ -25,13 +27,18 @@ settlement = tt
 
 -- From a sheet's bytes to its month, its refusal, and the result's bytes.
 unfoldable pub layout : Unit {0}
-unfolding bigEndian bytesOf laid widthOf joined over overAt lengthField version producerAt hoursAt power rowAt consumerAt sheetLength withContracts resultLength rowRecord consumerRecord resultOf oneOf badMonth tooMany badShare tooHigh highHour highProducer highRow highConsumer badReference tooDear badFactor frontTests headerTests formTests roomTests figureTests sheetTests tests applies firstOf refusal outcome bufferAfter
+unfolding bigEndian bytesOf laid widthOf joined over overAt lengthField version producerAt hoursAt power rowAt consumerAt sheetLength withContracts withPeak resultLength rowRecord consumerRecord resultOf oneOf badMonth tooMany badShare tooHigh highHour highProducer highRow highConsumer badReference tooDear badFactor frontTests headerTests formTests roomTests figureTests sheetTests tests applies firstOf refusal outcome bufferAfter done sheetAfter
 layout = tt
 
 -- From a sheet and a list of transfers to the sheet afterwards.
 unfoldable pub transfers : Unit {0}
 unfolding listLength listVersion entries entry badEntry badFront late moved afterEntries overdrawn overdrawnAt listTests turnTests transferTests transferRefusal transferOutcome volumesAfter transferred
 transfers = tt
+
+-- From a sheet and the record of an industrial complex to the sheet afterwards.
+unfoldable pub averaging : Unit {0}
+unfolding recordLength complex imported drawn sent badRecord highAt highRecord net complexPeak recordTests averageTests averageRefusal averageOutcome peakWritten averaged
+averaging = tt
 
 -- The table of control weekdays.
 unfoldable pub table : Unit {0}

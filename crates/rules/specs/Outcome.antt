@@ -30,6 +30,14 @@ unfoldable pub bufferAfter : List ℕ → List ℕ → List ℕ
 bufferAfter s out =
     cond (eqb (refusal s (length out)) 0) (over (resultOf (monthOf s)) out) out
 
+-- The answer of an entry that writes no result: the first number that applies, or a count of 0. [Requests, 1 and 3]
+unfoldable pub done : ℕ → Outcome
+done number = cond (eqb number 0) (written 0) (refused number)
+
+-- The sheet after an entry that changes it: what the entry makes of it; after a refusal what it was. [Requests, 1 and 3]
+unfoldable pub sheetAfter : ℕ → List ℕ → List ℕ → List ℕ
+sheetAfter number changed s = cond (eqb number 0) changed s
+
 -- A stretch of a sheet: its place and its length. [Units and the sheet]
 pub record Stretch : Type 0 where
   pub place : ℕ

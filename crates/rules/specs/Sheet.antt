@@ -78,6 +78,10 @@ consumerAt l c = rowAt l (l .header .rows) + consumerWidth l * c
 abbrev pub contractAt : Layout → ℕ → ℕ
 contractAt l c = consumerAt l c
 
+-- Where consumer c's peak stands: it follows the contract volume. [Requests, 3]
+abbrev pub peakAt : Layout → ℕ → ℕ
+peakAt l c = consumerAt l c + 4
+
 -- The length that version, month and counts ask for: the place past the last consumer.
 -- (sheet-length, in laws/Sheet: 14 + P × (42 + 288 × days) + 10 × R + 15 × C.)
 unfoldable pub sheetLength : Layout → ℕ
@@ -177,3 +181,7 @@ monthOf s = monthUnder (layoutOf s) s
 unfoldable pub withContracts : Layout → (ℕ → ℕ) → ℕ → List ℕ → List ℕ
 withContracts l v zero s = s
 withContracts l v (suc n) s = overAt (contractAt l n) (bytesOf 4 (v n)) (withContracts l v n s)
+
+-- The sheet after a peak was written for consumer c. [Requests, 3]
+unfoldable pub withPeak : Layout → ℕ → ℕ → List ℕ → List ℕ
+withPeak l c peak s = overAt (peakAt l c) (bytesOf 4 peak) s

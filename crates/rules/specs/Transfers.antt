@@ -6,10 +6,10 @@ use mathlib.Core.List.{List, [], _∷_, _++_}
 use lib.ListN.{length}
 use lib.Dec.{leb, ltb, eqb}
 use Rattle.rules.specs.Range.{any}
-use Rattle.rules.specs.Month.{Month}
+use Rattle.rules.specs.Month.{Month, withConsumers}
 use Rattle.rules.specs.Sheet.{headerOf, layoutOf, monthOf, withContracts}
 use Rattle.rules.specs.Refusals.{oneOf, tooHigh, Test, test, sheetTests, firstOf}
-use Rattle.rules.specs.Outcome.{Outcome, refused, written}
+use Rattle.rules.specs.Outcome.{Outcome, done, sheetAfter}
 use Rattle.rules.specs.TransferList.{Transfer, listFront, entryWidth, listLength, listVersion, entries, entry}
 
 -- The last day of the month before on which an entry may be filed.
@@ -85,9 +85,9 @@ transferTests s l = sheetTests s ++ (listTests (headerOf s .consumers) l ++ turn
 unfoldable pub transferRefusal : List ℕ → List ℕ → ℕ
 transferRefusal s l = firstOf (transferTests s l)
 
--- What is answered: the first number that applies, or a count of 0, since no result is written.
+-- What is answered.
 unfoldable pub transferOutcome : List ℕ → List ℕ → Outcome
-transferOutcome s l = cond (eqb (transferRefusal s l) 0) (written 0) (refused (transferRefusal s l))
+transferOutcome s l = done (transferRefusal s l)
 
 -- The contract volumes after the whole list.
 unfoldable pub volumesAfter : Month → List ℕ → ℕ → ℕ
@@ -96,25 +96,20 @@ volumesAfter m l = afterEntries (contracts m) l (entries l)
 -- The sheet afterwards: with the contract volumes after the list; after a refusal as it was.
 unfoldable pub transferred : List ℕ → List ℕ → List ℕ
 transferred s l =
-    cond (eqb (transferRefusal s l) 0)
+    sheetAfter (transferRefusal s l)
     (withContracts (layoutOf s) (volumesAfter (monthOf s) l) (headerOf s .consumers) s)
     s
 
 -- The month with other contract volumes.
 abbrev pub withVolumes : Month → (ℕ → ℕ) → Month
 withVolumes m v =
+    withConsumers m
+    (λ c.
     record {
-      header = m .header;
-      producer = m .producer;
-      row = m .row;
-      consumer =
-          λ c.
-          record {
-            contract = v c;
-            peak = m .consumer c .peak;
-            supplier = m .consumer c .supplier;
-            grid = m .consumer c .grid;
-            z = m .consumer c .z;
-            price = m .consumer c .price;
-          };
-    }
+      contract = v c;
+      peak = m .consumer c .peak;
+      supplier = m .consumer c .supplier;
+      grid = m .consumer c .grid;
+      z = m .consumer c .z;
+      price = m .consumer c .price;
+    })

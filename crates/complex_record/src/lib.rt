@@ -1,0 +1,73 @@
+// The record of an industrial complex: its figures, net power over the control hours, and numbers 16 and 17.
+ghost use mathlib.Core.Path.{_≡_};
+ghost use Rattle.rules.specs.ComplexRecord.{complex, imported};
+ghost use Rattle.rules.specs.Averaging.{badRecord, recordTests};
+ghost use Rattle.rules.specs.Refusals.{firstOf};
+ghost use Rattle.complex_record.specs.Net.{netPower, netControl};
+use calendar::ControlDays;
+use fields::byte;
+use fields::word;
+use hours::Control;
+use hours::Hourly;
+use hours::control_hours;
+use refusals_form::first;
+use refusals_powers::high_powers;
+use rules::Header;
+use rules::Series;
+
+// The consumer of the sheet that the complex is.
+pub fn complex(record: &[u8]) -> u8
+    ensures { λ r. ⌜ r ≡ complex (now (record .entry)) ⌝ }
+{
+    byte(record, 4)
+}
+
+// The imported power of the month.
+pub fn imported(record: &[u8]) -> u32
+    ensures { λ r. ⌜ r ≡ imported (now (record .entry)) ⌝ }
+{
+    word(record, 5)
+}
+
+// Net power, in the hours of a record: drawn less sent out.
+fn net_power() -> Hourly
+    ensures { λ r. ⌜ r ≡ netPower ⌝ }
+{
+    let drawn = Series { start: 0, step: 8 };
+    let sent = Series { start: 4, step: 8 };
+    Hourly::Net(drawn, sent)
+}
+
+// Net power over the control hours of a month of so many days. Nothing is counted where the record ends before the hours do.
+pub fn net_control(record: &[u8], days: u8, control: ControlDays) -> Control
+    ensures { λ r. ⌜ r ≡ netControl (now (record .entry)) days (control .on) ⌝ }
+{
+    let x = net_power();
+    if record.len() < 9 {
+        return control_hours(&record[..0], x, days, control);
+    }
+    control_hours(&record[9..], x, days, control)
+}
+
+// 16.
+fn bad_record(h: Header, record: &[u8]) -> bool
+    ensures { λ r. ⌜ r ≡ badRecord h (now (record .entry)) ⌝ }
+{
+    if record.len() < 9 {
+        return true;
+    }
+    let length = word(record, 0) as usize;
+    let days = h.days as usize;
+    (length != record.len()) | ((length != 9 + 192 * days) | (h.consumers <= complex(record)))
+}
+
+// The first of the numbers 16 and 17 that applies to a record, for a sheet with this header; 0 where none does.
+pub fn record_refusal(h: Header, record: &[u8]) -> u8
+    ensures { λ r. ⌜ r ≡ firstOf (recordTests h (now (record .entry))) ⌝ }
+{
+    if bad_record(h, record) {
+        return 16;
+    }
+    // Imported power and the powers of the hours follow each other.
+    first(17, high_powers(&record[5..]), 0)
+}
