@@ -22,12 +22,12 @@ use units::Tenths;
 use writing::put_word;
 
 // The complex's peak, from a record that is as long as the month asks.
-fn complex_peak(h: Header, record: &[u8]) -> Tenths
-    requires { ⌜ (recordWidth h ≤ length (now record)) × (h .days ≤ 31) × (1 ≤ h .weekday) × (h .weekday ≤ 7) ⌝ }
-    ensures { λ r. ⌜ r .0 ≡ complexPeak h (now (record .entry)) ⌝ }
+fn complex_peak(h: Header, rec: &[u8]) -> Tenths
+    requires { ⌜ (recordWidth h ≤ length (now rec)) × (h .days ≤ 31) × (1 ≤ h .weekday) × (h .weekday ≤ 7) ⌝ }
+    ensures { λ r. ⌜ r .0 ≡ complexPeak h (now (rec .entry)) ⌝ }
 {
-    let net = net_control(record, h.days, control_days(h));
-    average_less(net, Tenths::stated(imported(record)))
+    let net = net_control(rec, h.days, control_days(h));
+    average_less(net, Tenths::stated(imported(rec)))
 }
 
 // The sheet with a peak of consumer c.
@@ -41,20 +41,20 @@ fn write_peak(s: &mut [u8], layout: Layout, c: u8, peak: Tenths)
 
 // Writes the peak of an industrial complex, taken from its record, into that consumer's field of a sheet. A refusal changes no byte. Where
 // the peak is written the count is 0.
-pub fn average(sheet: &mut [u8], record: &[u8]) -> Answer
-    ensures { λ r. ⌜ said r ≡ averageOutcome (now (sheet .entry)) (now (record .entry)) ⌝ }
-    ensures sheet { λ r. ⌜ now (sheet .exit) ≡ averaged (now (sheet .entry)) (now (record .entry)) ⌝ }
+pub fn average(sheet: &mut [u8], rec: &[u8]) -> Answer
+    ensures { λ r. ⌜ said r ≡ averageOutcome (now (sheet .entry)) (now (rec .entry)) ⌝ }
+    ensures sheet { λ r. ⌜ now (sheet .exit) ≡ averaged (now (sheet .entry)) (now (rec .entry)) ⌝ }
 {
     let own = sheet_refusal(sheet);
     if own != 0 {
         return Answer::Refused(own);
     }
     let layout = layout(sheet);
-    let number = record_refusal(layout.header, record);
+    let number = record_refusal(layout.header, rec);
     if number != 0 {
         return Answer::Refused(number);
     }
-    let peak = complex_peak(layout.header, record);
-    write_peak(sheet, layout, complex(record), peak);
+    let peak = complex_peak(layout.header, rec);
+    write_peak(sheet, layout, complex(rec), peak);
     Answer::Written(0)
 }

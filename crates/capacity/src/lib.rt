@@ -43,9 +43,9 @@ pub extern "C" fn capacity_transfer(sheet: &mut [u8], list: &[u8]) -> i64
 
 // The peak of an industrial complex, written into a sheet: 0, or minus the refusal's number.
 #[no_mangle]
-pub extern "C" fn capacity_average(sheet: &mut [u8], record: &[u8]) -> i64
-    ensures { λ r. ⌜ r ≡ inC (averageOutcome (now (sheet .entry)) (now (record .entry))) ⌝ }
-    ensures sheet { λ r. ⌜ now (sheet .exit) ≡ averaged (now (sheet .entry)) (now (record .entry)) ⌝ }
+pub extern "C" fn capacity_average(sheet: &mut [u8], rec: &[u8]) -> i64
+    ensures { λ r. ⌜ r ≡ inC (averageOutcome (now (sheet .entry)) (now (rec .entry))) ⌝ }
+    ensures sheet { λ r. ⌜ now (sheet .exit) ≡ averaged (now (sheet .entry)) (now (rec .entry)) ⌝ }
 {
-    in_c(average(sheet, record))
+    in_c(average(sheet, rec))
 }

@@ -16,17 +16,17 @@ use rules::Header;
 use rules::Series;
 
 // The consumer of the sheet that the complex is.
-pub fn complex(record: &[u8]) -> u8
-    ensures { λ r. ⌜ r ≡ complex (now (record .entry)) ⌝ }
+pub fn complex(rec: &[u8]) -> u8
+    ensures { λ r. ⌜ r ≡ complex (now (rec .entry)) ⌝ }
 {
-    byte(record, 4)
+    byte(rec, 4)
 }
 
 // The imported power of the month.
-pub fn imported(record: &[u8]) -> u32
-    ensures { λ r. ⌜ r ≡ imported (now (record .entry)) ⌝ }
+pub fn imported(rec: &[u8]) -> u32
+    ensures { λ r. ⌜ r ≡ imported (now (rec .entry)) ⌝ }
 {
-    word(record, 5)
+    word(rec, 5)
 }
 
 // Net power, in the hours of a record: drawn less sent out.
@@ -39,35 +39,35 @@ fn net_power() -> Hourly
 }
 
 // Net power over the control hours of a month of so many days. Nothing is counted where the record ends before the hours do.
-pub fn net_control(record: &[u8], days: u8, control: ControlDays) -> Control
-    ensures { λ r. ⌜ r ≡ netControl (now (record .entry)) days (control .on) ⌝ }
+pub fn net_control(rec: &[u8], days: u8, control: ControlDays) -> Control
+    ensures { λ r. ⌜ r ≡ netControl (now (rec .entry)) days (control .on) ⌝ }
 {
     let x = net_power();
-    if record.len() < 9 {
-        return control_hours(&record[..0], x, days, control);
+    if rec.len() < 9 {
+        return control_hours(&rec[..0], x, days, control);
     }
-    control_hours(&record[9..], x, days, control)
+    control_hours(&rec[9..], x, days, control)
 }
 
 // 16.
-fn bad_record(h: Header, record: &[u8]) -> bool
-    ensures { λ r. ⌜ r ≡ badRecord h (now (record .entry)) ⌝ }
+fn bad_record(h: Header, rec: &[u8]) -> bool
+    ensures { λ r. ⌜ r ≡ badRecord h (now (rec .entry)) ⌝ }
 {
-    if record.len() < 9 {
+    if rec.len() < 9 {
         return true;
     }
-    let length = word(record, 0) as usize;
+    let length = word(rec, 0) as usize;
     let days = h.days as usize;
-    (length != record.len()) | ((length != 9 + 192 * days) | (h.consumers <= complex(record)))
+    (length != rec.len()) | ((length != 9 + 192 * days) | (h.consumers <= complex(rec)))
 }
 
 // The first of the numbers 16 and 17 that applies to a record, for a sheet with this header; 0 where none does.
-pub fn record_refusal(h: Header, record: &[u8]) -> u8
-    ensures { λ r. ⌜ r ≡ firstOf (recordTests h (now (record .entry))) ⌝ }
+pub fn record_refusal(h: Header, rec: &[u8]) -> u8
+    ensures { λ r. ⌜ r ≡ firstOf (recordTests h (now (rec .entry))) ⌝ }
 {
-    if bad_record(h, record) {
+    if bad_record(h, rec) {
         return 16;
     }
     // Imported power and the powers of the hours follow each other.
-    first(17, high_powers(&record[5..]), 0)
+    first(17, high_powers(&rec[5..]), 0)
 }
