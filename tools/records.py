@@ -1,7 +1,8 @@
-"""A month's sheet as records and as bytes, the entries of a list of transfers, and the figures of a result.
+"""A month's sheet as records and as bytes, the entries of a list of transfers, the record of an industrial complex, and
+the figures of a result.
 
 Layout and limits are those of document 01: "Units and the sheet", "Result" and "When a sheet is turned down"; of a list
-those of request 1 of document 02. Capacities, powers, volumes, peaks and amounts are in tenths of a megawatt, prices in
+and of a complex those of requests 1 and 3 of document 02. Capacities, powers, volumes, peaks and amounts are in tenths of a megawatt, prices in
 tiyn, coefficients in millionths.
 """
 import struct
@@ -119,6 +120,16 @@ ENTRY_FIELDS = (
     Field("taker", "taker", 1, PLAIN),
     Field("amount", "amount", 4, CAPACITY),
 )
+# The record of an industrial complex: its front and each of its hours.
+COMPLEX_FIELDS = (
+    Field("length", "length", 4, PLAIN),
+    Field("consumer", "consumer", 1, PLAIN),
+    Field("imported", "imported power", 4, CAPACITY),
+)
+COMPLEX_HOUR_FIELDS = (
+    Field("drawn", "power drawn", 4, CAPACITY),
+    Field("sent", "power sent out", 4, CAPACITY),
+)
 
 
 def packing(fields):
@@ -132,7 +143,16 @@ ROW_PACKING = packing(ROW_FIELDS)
 CONSUMER_PACKING = packing(CONSUMER_FIELDS)
 FRONT_PACKING = packing(FRONT_FIELDS)
 ENTRY_PACKING = packing(ENTRY_FIELDS)
+COMPLEX_PACKING = packing(COMPLEX_FIELDS)
+COMPLEX_HOUR_PACKING = packing(COMPLEX_HOUR_FIELDS)
 HEADER, FRONT, ENTRY = HEADER_PACKING.size, FRONT_PACKING.size, ENTRY_PACKING.size
+COMPLEX_FRONT, COMPLEX_HOUR = COMPLEX_PACKING.size, COMPLEX_HOUR_PACKING.size
+
+
+def complex_length(days):
+    """The bytes of a complex's record in a month of so many days: 9 + 192 × days."""
+    return COMPLEX_FRONT + COMPLEX_HOUR * 24 * days
+
 
 # ------------------------------------------------------------------ records
 

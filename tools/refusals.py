@@ -1,7 +1,8 @@
 """Why a sheet is refused: every number that applies, in the order in which they are tried, with the fields.
 
 An aid for people. What holds is the answer of the proved program; number 7 is about the result buffer, not the sheet.
-The numbers of a list of transfers have their turn and their words here too; transfers.py tries them.
+The numbers of a list of transfers and of a complex's record have their turn and their words here too; transfers.py and
+complexes.py try them.
 """
 from typing import NamedTuple
 
@@ -18,6 +19,8 @@ BUFFER_NUMBER = 7       # the result buffer is shorter than the result
 # The same for a list of transfers. A settlement never meets them; where a list is applied to a sheet, they are tried
 # after all of the sheet's save 7.
 TRIED_IN_LIST = BAD_LIST, FILED_LATE, OVERDRAWN = 13, 14, 15
+# And for the record of an industrial complex, in the same place.
+TRIED_IN_RECORD = BAD_RECORD, HIGH_POWER = 16, 17
 LAST_DAY = 31           # that a month can have
 LAST_FILING_DAY = 20
 
@@ -39,12 +42,14 @@ RULES = {
     14: f"an entry was filed after day {LAST_FILING_DAY}",
     15: "at its turn, an entry asks more than its giver has, or brings its taker above "
         f"{CAPACITY.text(TOP_CAPACITY)} MW",
+    16: "the record's length is not what its bytes and the days of the month ask for, or it names no consumer of the sheet",
+    17: f"a power in the record is above {CAPACITY.text(TOP_CAPACITY)} MW",
 }
 
 
 def turn(number):
     """The place of a number in the order in which they are tried."""
-    return (*TRIED, *TRIED_IN_LIST).index(number)
+    return (*TRIED, *TRIED_IN_LIST, *TRIED_IN_RECORD).index(number)
 
 
 def tried_before(number):
