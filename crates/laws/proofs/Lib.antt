@@ -10,7 +10,9 @@ pub mod Fields
 pub mod Written
 pub mod Sheet
 pub mod Refusals
+pub mod Changed
 pub mod Transfers
+pub mod Averaging
 pub mod Figures
 pub mod ControlHours
 pub mod ControlTable

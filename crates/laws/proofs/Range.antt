@@ -154,12 +154,10 @@ unfolding any
 any-or f g zero = refl
 any-or f g (suc n) = ap (λ (b : Bool). b || (f n || g n)) (any-or f g n) ∙ or-swap (any f n) (any g n) (f n) (g n)
 
--- A test of three places in one is one over three times as many places.
-pub any-threes : (f : ℕ → Bool) (n : ℕ) → any (λ i. f (3 * i) || (f (3 * i + 1) || f (3 * i + 2))) n ≡ any f (3 * n)
+-- A test of k places in one is one over k times as many places.
+pub any-groups : (f : ℕ → Bool) (k n : ℕ) → any (λ i. any (λ j. f (k * i + j)) k) n ≡ any f (k * n)
 unfolding any
-any-threes f zero = refl
-any-threes f (suc n) =
-    let next : 3 * suc n ≡ suc (suc (suc (3 * n))) = omega arith in
-    let one : 3 * n + 1 ≡ suc (3 * n) = omega arith in
-    let two : 3 * n + 2 ≡ suc (suc (3 * n)) = omega arith in
-    rw (next, one, two, any-threes f n) (simp or-assoc)
+any-groups f k zero = let none : k * 0 ≡ 0 = omega arith in rw none
+any-groups f k (suc n) =
+    let next : k * suc n ≡ k * n + k = omega arith in
+    rw (next, any-append f (k * n) k, any-groups f k n)

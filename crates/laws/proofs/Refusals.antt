@@ -19,7 +19,7 @@ use Rattle.rules.specs.Month.{Producer, Month, hours}
 use Rattle.rules.specs.declared.Layout.{Layout}
 use Rattle.rules.specs.Sheet.{headerOf, layoutOf, monthOf, hoursWidth, hoursAt}
 use Rattle.rules.specs.Result.{resultLength}
-use Rattle.rules.specs.Refusals.{oneOf, badMonth, tooMany, badShare, tooHigh, highHour, highProducer, highRow, highConsumer, badReference, tooDear, badFactor, Test, frontTests, headerTests, formTests, roomTests, figureTests, tests, applies, firstOf, refusal}
+use Rattle.rules.specs.Refusals.{oneOf, badMonth, tooMany, badShare, tooHigh, highHour, highProducer, highRow, highConsumer, badReference, tooDear, badFactor, Test, frontTests, headerTests, formTests, roomTests, figureTests, sheetTests, tests, applies, firstOf, refusal}
 use Rattle.rules.specs.Limits.{HeaderLimits, ProducerLimits, RowLimits, ConsumerLimits, MonthLimits, FormLimits, SheetLimits}
 use Rattle.rules.specs.Outcome.{Accepted, hoursStretch}
 use Rattle.laws.proofs.Sheet.{hours-inside}
@@ -387,6 +387,18 @@ module _ (s : List ℕ) (room : ℕ) where
       both-first before-figures (figureTests (monthOf s)) before-numbered
       (both-first (formTests s) (roomTests (headerOf s) room) (form-numbered s) (form-clear s (l .form)) (room-clear (l .enough-room)))
       (month-figures-clear (monthOf s) (l .month))
+
+-- The sheet's own numbers, all but 7.
+pub sheet-numbered : (s : List ℕ) → T (numbered (sheetTests s))
+unfolding sheetTests formTests frontTests headerTests figureTests
+sheet-numbered s = tt
+
+pub sheet-limits : (s : List ℕ) → firstOf (sheetTests s) ≡ 0 → FormLimits s × MonthLimits (monthOf s)
+unfolding sheetTests
+sheet-limits s e =
+    let parts = first-both (formTests s) (figureTests (monthOf s)) (form-numbered s) e in
+    let form = form-limits s (parts .0) in
+    (form, month-limits (monthOf s) (form .header) (parts .1))
 
 -- The stretch of hours: where it stands, that it ends within the sheet, and where there is none.
 module _ (s : List ℕ) (p : ℕ) where

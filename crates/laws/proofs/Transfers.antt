@@ -12,11 +12,11 @@ use Rattle.rules.specs.Range.{sum, any}
 use Rattle.rules.specs.Units.{tenthsCeiling}
 use Rattle.rules.specs.Limits.{FormLimits, MonthLimits}
 use Rattle.rules.specs.Sheet.{headerOf, monthOf}
-use Rattle.rules.specs.Refusals.{frontTests, headerTests, formTests, figureTests, sheetTests, firstOf, applies}
+use Rattle.rules.specs.Refusals.{sheetTests, firstOf, applies}
 use Rattle.rules.specs.TransferList.{entries, entry}
 use Rattle.rules.specs.Transfers.{badEntry, moved, afterEntries, overdrawn, overdrawnAt, contracts, listTests, turnTests, transferTests, transferRefusal}
 use Rattle.laws.proofs.Range.{any-clear, any-same, sum-one}
-use Rattle.laws.proofs.Refusals.{numbered, none-applies, first-both, none-of, high-clear, form-numbered, form-limits, month-limits}
+use Rattle.laws.proofs.Refusals.{numbered, none-applies, first-both, none-of, high-clear, sheet-numbered, sheet-limits}
 
 -- An entry that 13 lets pass, among so many consumers.
 pub record Named (consumers : ℕ) (t : Transfer) : Type 0 where
@@ -140,18 +140,6 @@ names-clear consumers l e i b =
 turns-clear : (v : ℕ → ℕ) (l : List ℕ) → firstOf (turnTests v l) ≡ 0 → (i : ℕ) → i < entries l → overdrawnAt v l i ≡ false
 unfolding turnTests applies
 turns-clear v l e = any-clear _ _ (none-applies (turnTests v l) tt e 15)
-
--- The sheet's own numbers, all but 7.
-pub sheet-numbered : (s : List ℕ) → T (numbered (sheetTests s))
-unfolding sheetTests formTests frontTests headerTests figureTests
-sheet-numbered s = tt
-
-pub sheet-limits : (s : List ℕ) → firstOf (sheetTests s) ≡ 0 → FormLimits s × MonthLimits (monthOf s)
-unfolding sheetTests
-sheet-limits s e =
-    let parts = first-both (formTests s) (figureTests (monthOf s)) (form-numbered s) e in
-    let form = form-limits s (parts .0) in
-    (form, month-limits (monthOf s) (form .header) (parts .1))
 
 -- A list that is applied: the sheet keeps to its limits, and so does the list.
 pub applied-limits : (s l : List ℕ) → transferRefusal s l ≡ 0

@@ -1,36 +1,35 @@
 -- k1 and k4 of a producer, from the sums over the stretch of its hours. Assumes nothing.
-use mathlib.Core.Path.{_≡_, refl, sym, ap, ap₂, _∙_}
-use mathlib.Core.Bool.{Bool, true, false}
+use mathlib.Core.Path.{_≡_, refl, ap, ap₂, _∙_}
+use mathlib.Core.Bool.{Bool, true}
 use mathlib.Core.List.{List}
 use Prim.Native.Nat.{ℕ, _+_, _-_, _*_, _≤_, _<_, min}
 use native.Mathlib.Omega.{arith}
 use borrow.Author.Tests.{le-leb}
-use lib.ListN.{length, take, drop, getD, length-take, length-drop}
+use lib.ListN.{length, take, drop, length-take, length-drop}
 use Rattle.rules.specs.declared.Layout.{Layout}
 use Rattle.rules.specs.declared.Ratio.{Ratio}
 use Rattle.rules.specs.declared.Series.{Series}
 use Rattle.rules.specs.declared.Stated.{Stated}
-use Rattle.rules.specs.Range.{sum, when, listed}
+use Rattle.rules.specs.Range.{listed}
 use Rattle.rules.specs.Month.{hours}
 use Rattle.rules.specs.Sheet.{hoursWidth, hoursAt, producerAt, statedOf, power, hourSeries, producerUnder}
 use Rattle.rules.specs.Outcome.{within}
-use Rattle.rules.specs.ControlHours.{controlDay, controlSum, controlCount, controlAverage}
+use Rattle.rules.specs.ControlHours.{controlSum, controlCount, controlAverage}
 use Rattle.rules.specs.ControlTable.{tableDay}
 use Rattle.rules.specs.Bands.{bandOf, thousandths}
 use Rattle.rules.specs.Coefficients.{ratio, overuse, penalty, lessPenalty, asked, met, exactK1, exactK4}
 use Rattle.laws.proofs.Range.{sum-same}
-use Rattle.laws.proofs.Arrays.{getD-listed}
 use Rattle.laws.proofs.Fields.{read-part}
-use Rattle.laws.proofs.ControlHours.{evening, control-by-day, count-by-day}
-use Rattle.laws.proofs.ControlTable.{table-day}
 use Rattle.units.specs.Sums.{tenths}
 use Rattle.sheet.specs.Whole.{stretchIn}
 use Rattle.sheet.proofs.Whole.{stretch-whole}
 use Rattle.hours.specs.declared.k4.K4.{K4}
 use Rattle.hours.specs.declared.control.Control.{Control}
-use Rattle.hours.specs.Series.{stands, powerIn}
+use Rattle.hours.specs.declared.series.Hourly.{Hourly}
+use Rattle.hours.specs.Series.{stands, powerIn, hourlyStands}
 use Rattle.hours.specs.Sums.{k4In}
 use Rattle.hours.specs.Control.{controlIn}
+use Rattle.hours.proofs.Known.{control-known}
 use Rattle.producers.specs.Terms.{overOf}
 
 module _ (l : Layout) (s : List ℕ) (p : ℕ) (fits : hoursAt l p + hoursWidth (l .header) ≤ length s) {part : List ℕ} (lent : part ≡ within (stretchIn l (length s) p) s) where
@@ -72,28 +71,15 @@ module _ (l : Layout) (s : List ℕ) (p : ℕ) (fits : hoursAt l p + hoursWidth 
 
   -- k1.
   module _ (few : l .header .days ≤ 31) (from : 1 ≤ l .header .weekday) (to : l .header .weekday ≤ 7) {on : List Bool} (days : on ≡ listed (tableDay (l .header)) 31) where
-    marked : (d : ℕ) → d < l .header .days → getD on d false ≡ controlDay (l .header) d
-    marked d b = rw days (getD-listed false (tableDay (l .header)) 31 d (omega arith)) ∙ table-day (l .header) d from to (omega arith)
-
-    evening-read : (d : ℕ) → d < l .header .days → evening (powerIn part (hourSeries l .outside)) d ≡ evening (producerUnder l s p .outsideUse) d
-    evening-read d b = sum-same _ _ {n = 6} refl (λ t q. read (hourSeries l .outside) refl (omega arith) (24 * d + (17 + t)) (omega arith))
-
-    sum-known : sum (λ d. when (getD on d false) (evening (powerIn part (hourSeries l .outside)) d)) (l .header .days) ≡ controlSum (l .header) (producerUnder l s p .outsideUse)
-    unfolding controlSum
-    sum-known =
-        sum-same _ _ {n = l .header .days} refl (λ d b. ap₂ when (marked d b) (evening-read d b))
-        ∙ sym (control-by-day (l .header) (producerUnder l s p .outsideUse) (l .header .days))
-
-    count-known : sum (λ d. when (getD on d false) 6) (l .header .days) ≡ controlCount (l .header)
-    count-known = sum-same _ _ {n = l .header .days} refl (λ d b. ap (λ (t : Bool). when t 6) (marked d b)) ∙ sym (count-by-day (l .header))
-
-    control-known : {c : Control} → c ≡ controlIn part (hourSeries l .outside) (l .header .days) on
+    control : {c : Control} → c ≡ controlIn part (Hourly.Power (hourSeries l .outside)) (l .header .days) on
         → c ≡ record { counted = tenths (controlSum (l .header) (producerUnder l s p .outsideUse)); count = controlCount (l .header) }
-    unfolding controlIn
-    control-known is = rw (is, le-leb (l .header .days) 31 few, standing (hourSeries l .outside) refl (omega arith), sum-known, count-known)
+    control is =
+        is
+        ∙ control-known (l .header) few from to days part (Hourly.Power (hourSeries l .outside)) (producerUnder l s p .outsideUse)
+        (unfold hourlyStands in standing (hourSeries l .outside) refl (omega arith)) (read (hourSeries l .outside) refl (omega arith))
 
-    pub k1-known : {c : Control} {r : Ratio} {x : Stated} (T : ℕ) → c ≡ controlIn part (hourSeries l .outside) (l .header .days) on → x ≡ statedOf s (producerAt l p)
+    pub k1-known : {c : Control} {r : Ratio} {x : Stated} (T : ℕ) → c ≡ controlIn part (Hourly.Power (hourSeries l .outside)) (l .header .days) on → x ≡ statedOf s (producerAt l p)
         → r ≡ lessPenalty T (bandOf (thousandths (overOf c (x .deductible)) (x .deductible)) * overOf c (x .deductible))
         → r ≡ exactK1 (l .header) (producerUnder l s p) T
     unfolding exactK1 penalty overuse controlAverage
-    k1-known T counted stated is = rw (is, control-known counted, stated)
+    k1-known T counted stated is = rw (is, control counted, stated)

@@ -152,7 +152,8 @@ fn terms_of(s: &[u8], layout: Layout, p: u8, v: Volumes, control: ControlDays) -
     let of = hour_series(layout);
     let days = layout.header.days;
     let sums = k4_sums(hours, of.working, of.possible, days, summed);
-    let counted = control_hours(hours, Hourly::Power(of.outside), days, control);
+    let outside = of.outside;
+    let counted = control_hours(hours, Hourly::Power(outside), days, control);
     let k1 = exact_k1(counted, x.deductible, v.support);
     let ks = ks_of(layout.header, x, k1, exact_k4(sums));
     Terms { excess, ks }

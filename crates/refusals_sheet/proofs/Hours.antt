@@ -14,7 +14,7 @@ use Rattle.rules.specs.Fields.{bigEndian}
 use Rattle.rules.specs.Sheet.{hoursWidth, producerAt, hoursAt, sheetLength, statedOf, power, producerUnder}
 use Rattle.rules.specs.Refusals.{oneOf, tooHigh, badShare, highHour, highProducer}
 use Rattle.rules.specs.Outcome.{within}
-use Rattle.laws.proofs.Range.{any-same, any-threes}
+use Rattle.laws.proofs.Range.{any-same, any-groups}
 use Rattle.laws.proofs.Sheet.{hours-inside}
 use Rattle.sheet.specs.Whole.{statedIn, stretchIn}
 use Rattle.sheet.proofs.Whole.{stated-whole, stretch-whole}
@@ -24,16 +24,13 @@ use Rattle.refusals_powers.proofs.Powers.{part-high}
 
 module _ (layout : Layout) (s : List ℕ) (p : ℕ) where
   -- An hour's three powers stand one after the other.
-  hour-high : (i : ℕ)
-      → highHour (producerUnder layout s p) i
-      ≡ (tooHigh (bigEndian 4 s (hoursAt layout p + 4 * (3 * i)))
-      || (tooHigh (bigEndian 4 s (hoursAt layout p + 4 * (3 * i + 1))) || tooHigh (bigEndian 4 s (hoursAt layout p + 4 * (3 * i + 2)))))
-  unfolding highHour oneOf power
+  hour-high : (i : ℕ) → any (λ j. tooHigh (bigEndian 4 s (hoursAt layout p + 4 * (3 * i + j)))) 3 ≡ highHour (producerUnder layout s p) i
+  unfolding any highHour oneOf power
   hour-high i =
-      let w : 4 * (3 * i) ≡ 0 + 12 * i = omega arith in
+      let w : 4 * (3 * i + 0) ≡ 0 + 12 * i = omega arith in
       let q : 4 * (3 * i + 1) ≡ 4 + 12 * i = omega arith in
       let o : 4 * (3 * i + 2) ≡ 8 + 12 * i = omega arith in
-      rw (or-false, w, q, o)
+      rw (w, q, o, or-false) (simp or-assoc)
 
   -- The powers of the stretch are those of the hours.
   stretch-high : hoursAt layout p + hoursWidth (layout .header) ≤ length s
@@ -44,8 +41,8 @@ module _ (layout : Layout) (s : List ℕ) (p : ℕ) where
       rw (stretch-whole layout s p fits)
       (part-high s (hoursAt layout p) (hoursWidth (layout .header)) (72 * layout .header .days) (omega arith) fits
       ∙ ap (highFrom s (hoursAt layout p)) all
-      ∙ sym (any-threes (λ i. tooHigh (bigEndian 4 s (hoursAt layout p + 4 * i))) (24 * layout .header .days))
-      ∙ sym (any-same _ _ (24 * layout .header .days) (λ i l. hour-high i)))
+      ∙ sym (any-groups (λ i. tooHigh (bigEndian 4 s (hoursAt layout p + 4 * i))) 3 (24 * layout .header .days))
+      ∙ any-same _ _ (24 * layout .header .days) (λ i l. hour-high i))
 
   -- In a whole sheet, of a producer below P.
   module _ (whole : sheetLength layout ≤ length s) (below : p < layout .header .producers) where

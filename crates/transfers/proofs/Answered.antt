@@ -5,21 +5,22 @@ use mathlib.Core.List.{List, _++_}
 use Prim.Native.Nat.{ℕ, zero-le, _≤_, _<_}
 use native.Mathlib.Nat.{le-of-eq}
 use native.Mathlib.Omega.{arith}
-use borrow.Author.Tests.{eq-eqb, ne-eqb, ltb-true, lt-ltb}
+use borrow.Author.Tests.{ltb-true, lt-ltb}
 use lib.Dec.{ltb}
 use lib.ListN.{length}
 use Rattle.rules.specs.declared.Layout.{Layout}
 use Rattle.rules.specs.Range.{any}
 use Rattle.rules.specs.Units.{tenthsCeiling}
-use Rattle.rules.specs.Sheet.{layoutOf, monthOf, monthUnder, sheetLength, withContracts}
-use Rattle.rules.specs.Refusals.{sheetTests, firstOf}
+use Rattle.rules.specs.Sheet.{headerOf, layoutOf, monthOf, monthUnder, sheetLength, withContracts}
+use Rattle.rules.specs.Refusals.{Test, sheetTests, firstOf}
 use Rattle.rules.specs.Outcome.{refused, written}
 use Rattle.rules.specs.TransferList.{entries}
 use Rattle.rules.specs.Transfers.{contracts, listTests, turnTests, transferTests, transferRefusal, transferOutcome, transferred, volumesAfter, afterEntries, overdrawnAt}
 use Rattle.laws.proofs.Arrays.{Agrees, filled, getD-listed, length-listed}
-use Rattle.laws.proofs.Refusals.{first-stands, first-next}
+use Rattle.laws.proofs.Refusals.{first-stands, first-next, sheet-limits}
 use Rattle.laws.proofs.Written.{contracts-same}
-use Rattle.laws.proofs.Transfers.{AllNamed, list-numbered, names-clear, sheet-numbered, sheet-limits, after-same, turns-same}
+use Rattle.laws.proofs.Transfers.{AllNamed, list-numbered, names-clear, after-same, turns-same}
+use Rattle.laws.proofs.Changed as Changed
 use Rattle.units.specs.declared.Tenths.{Tenths}
 use Rattle.units.specs.Sums.{tenths}
 use Rattle.transfers.specs.declared.contracts.Volumes.{Volumes}
@@ -45,23 +46,23 @@ module _ (n : ℕ) (v : ℕ → ℕ) {x : Volumes} (e : x ≡ held n v) where
       go c false q = zero-le
 
 module _ (s l : List ℕ) where
-  -- A refused list: its number, and the sheet as it was.
-  turned-down : {n : ℕ} → n ≡ transferRefusal s l → (n ≡ 0 → ⊥) → (refused n ≡ transferOutcome s l) × (s ≡ transferred s l)
-  unfolding transferOutcome transferred
-  turned-down e p =
-      let q = ne-eqb (transferRefusal s l) 0 (λ z. p (e ∙ z)) in
-      (rw (q, e), rw q)
+  -- The numbers past the sheet's own, and the sheet with the volumes after the list.
+  abbrev lists : List Test
+  lists = listTests (headerOf s .consumers) l ++ turnTests (contracts (monthOf s)) l
+
+  abbrev changed : List ℕ
+  changed = withContracts (layoutOf s) (volumesAfter (monthOf s) l) (headerOf s .consumers) s
 
   -- The sheet's own number.
   pub own-refused : {n : ℕ} → n ≡ firstOf (sheetTests s) → (n ≡ 0 → ⊥) → (refused n ≡ transferOutcome s l) × (s ≡ transferred s l)
-  own-refused e p =
-      turned-down (e ∙ (unfold transferRefusal transferTests in first-stands (sheetTests s) _ (sheet-numbered s) (λ z. p (e ∙ z)))) p
+  unfolding transferOutcome transferred transferRefusal transferTests
+  own-refused e p = Changed.own-refused s lists changed e p
 
   -- Where it has none.
   module _ (own : firstOf (sheetTests s) ≡ 0) {layout : Layout} (el : layout ≡ layoutOf s) where
-    next : firstOf (listTests (layout .header .consumers) l ++ turnTests (contracts (monthOf s)) l) ≡ transferRefusal s l
-    unfolding transferRefusal transferTests
-    next = rw el (first-next (sheetTests s) _ (sheet-numbered s) own)
+    turned-down : {n : ℕ} → n ≡ firstOf lists → (n ≡ 0 → ⊥) → (refused n ≡ transferOutcome s l) × (s ≡ transferred s l)
+    unfolding transferOutcome transferred transferRefusal transferTests
+    turned-down e p = Changed.rest-refused s lists changed own e p
 
     -- The sheet is whole, and has few consumers.
     pub whole : (sheetLength layout ≤ length s) × (layout .header .consumers ≤ 32)
@@ -73,15 +74,15 @@ module _ (s l : List ℕ) where
     pub list-refused : {n : ℕ} → n ≡ firstOf (listTests (layout .header .consumers) l) → (n ≡ 0 → ⊥)
         → (refused n ≡ transferOutcome s l) × (s ≡ transferred s l)
     list-refused e p =
-        turned-down (e ∙ first-stands (listTests (layout .header .consumers) l) _ (list-numbered _ l) (λ z. p (e ∙ z)) ∙ next) p
+        turned-down (e ∙ first-stands (listTests (layout .header .consumers) l) (turnTests (contracts (monthOf s)) l) (list-numbered _ l) (λ z. p (e ∙ z)) ∙ rw el) p
 
     -- Where neither applies.
     module _ (good : firstOf (listTests (layout .header .consumers) l) ≡ 0) where
       named : AllNamed (layout .header .consumers) l
       named = names-clear (layout .header .consumers) l good
 
-      turn-number : firstOf (turnTests (contracts (monthOf s)) l) ≡ transferRefusal s l
-      turn-number = first-next (listTests (layout .header .consumers) l) _ (list-numbered _ l) good ∙ next
+      turn-number : firstOf (turnTests (contracts (monthOf s)) l) ≡ firstOf lists
+      turn-number = first-next (listTests (layout .header .consumers) l) _ (list-numbered _ l) good ∙ rw el
 
       small : (c : ℕ) → c < layout .header .consumers → contracts (monthUnder layout s) c ≤ tenthsCeiling
       small = rw el (λ c b. sheet-limits s own .1 .consumer c b .contract)
@@ -109,14 +110,14 @@ module _ (s l : List ℕ) where
 
         -- No number applies.
         module _ {b : Bool} (e : b ≡ any (overdrawnAt (read x) l) (entries l)) (y : b ≡ false) where
-          none : transferRefusal s l ≡ 0
+          none : firstOf lists ≡ 0
           none = sym turn-number ∙ (unfold turnTests firstOf in rw (sym (turns e) ∙ y))
 
           pub applied : {after : Volumes} {t : List ℕ} → Agrees 32 (tenths 0) (λ c. tenths (afterEntries (read x) l (entries l) c)) (after .of)
               → t ≡ withContracts layout (read after) (layout .header .consumers) s → (written 0 ≡ transferOutcome s l) × (t ≡ transferred s l)
-          unfolding transferOutcome transferred volumesAfter
+          unfolding transferOutcome transferred transferRefusal transferTests volumesAfter
           applied {after} a et =
-              let q = eq-eqb (transferRefusal s l) 0 none in
               let each : (c : ℕ) → c < layout .header .consumers → read after c ≡ afterEntries (contracts (monthOf s)) l (entries l) c =
               λ c k. ap (λ (y : Tenths). y .0) (a .each c (omega (arith, k, whole .1))) ∙ after-same l (layout .header .consumers) named (read x) (contracts (monthOf s)) same (entries l) c k in
-              (rw q, et ∙ contracts-same layout _ _ s _ each ∙ rw (q, el))
+              let done = Changed.none-refused s lists changed own (sym none) refl in
+              (done .0, et ∙ contracts-same layout _ _ s _ each ∙ rw el (done .1))

@@ -10,11 +10,11 @@ stated-requires : tie.Need-stated-requires
 stated-requires c κs = search needs
 
 -- D, from the figures that were handed over.
-over : (c : tie.After-overuse) → c .overuse .result .0 ≡ overOf (c .before .before .args .control) (c .before .before .args .deductible)
-over c = c .overuse .ensures ∙ ap (overOf (c .before .before .args .control)) (c .before .stated .ensures .0)
+over : (c : tie.After-average-less) → c .average-less .result .0 ≡ overOf (c .before .before .args .control) (c .before .before .args .deductible)
+over c = c .average-less .ensures ∙ ap (overOf (c .before .before .args .control)) (c .before .stated .ensures .0)
 
-overuse-requires : tie.Need-overuse-requires
-overuse-requires c κs = search needs
+average-less-requires : tie.Need-average-less-requires
+average-less-requires c κs = search needs
 
 cast-penalty : tie.Need-cast-penalty
 cast-penalty c =
@@ -34,7 +34,7 @@ exact-k1-spec =
     tie.close
     (tie.spec
     stated-requires
-    overuse-requires
+    average-less-requires
     cast-penalty
     penalty-requires
     less-penalty-requires

@@ -52,18 +52,18 @@ control-hours-requires : tie.Need-control-hours-requires
 control-hours-requires c κs = search needs
 
 exact-k1-requires : tie.Need-exact-k1-requires
-exact-k1-requires c κs = (c .control-hours .ensures .1, beginning (summing (c .before)) .pre .1 .0 .1 .0)
+exact-k1-requires c κs = (c .control-hours .ensures .1, beginning (summing (c .before .before)) .pre .1 .0 .1 .0)
 
 exact-k4-requires : tie.Need-exact-k4-requires
 exact-k4-requires c κs = search needs
 
 ks-of-requires : tie.Need-ks-of-requires
 ks-of-requires c κs =
-    (c .before .exact-k1 .ensures .1, omega (arith, ap (λ (r : Ratio). r .part) (c .exact-k4 .ensures), c .before .before .before .k4-sums .ensures .1 .1, beginning (summing (c .before .before .before)) .pre .0 .0))
+    (c .before .exact-k1 .ensures .1, omega (arith, ap (λ (r : Ratio). r .part) (c .exact-k4 .ensures), c .before .before .before .before .k4-sums .ensures .1 .1, beginning (summing (c .before .before .before .before)) .pre .0 .0))
 
 returns : tie.Need-returns
 returns c =
-    let u = summing (c .before .before .before .before) in
+    let u = summing (c .before .before .before .before .before) in
     let a = beginning u in
     let l = a .args .layout in
     let s = a .args .s .now in
@@ -73,7 +73,7 @@ returns c =
     let x = u .before .before .before .before .producer .ensures ∙ whole l s p fits in
     let summed = u .before .before .before .summed-of .ensures ∙ summed-is m p (a .args .v) _ (a .pre .1 .0 .0) (ap (λ (y : Stated). y .deductible) x) in
     let lent = u .before .stretch .ensures .0 in
-    let sums = rw (u .hour-series .ensures, summed) at (c .before .before .before .before .k4-sums .ensures .0) in
+    let sums = rw (u .hour-series .ensures, summed) at (c .before .before .before .before .before .k4-sums .ensures .0) in
     let fourth = k4-known l s p fits lent (summedCapacity m p) sums (c .before .exact-k4 .ensures) in
     let counted = rw (u .hour-series .ensures) at (c .before .before .before .control-hours .ensures .0) in
     let first = k1-known l s p fits lent (a .pre .0 .0) (a .pre .1 .1 .0) (a .pre .1 .1 .1) (a .pre .1 .1 .2) (a .args .v .support .0) counted x (c .before .before .exact-k1 .ensures .0)

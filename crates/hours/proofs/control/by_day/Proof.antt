@@ -4,15 +4,15 @@ use mathlib.Core.Logic.{⊎-elim}
 use Prim.Native.Nat.{_-_, _≤_, zero-le}
 use Rattle.units.specs.Sums.{tenths}
 use Rattle.units.proofs.Adding.{added-exact}
-use Rattle.hours.specs.Series.{powerIn}
-use Rattle.hours.proofs.Standing.{fewer}
+use Rattle.hours.specs.Series.{hourlyIn}
+use Rattle.hours.proofs.Standing.{hourly-fewer}
 use Rattle.hours.proofs.Turns.{SoFar, none-yet, control-more, other-more, all-days}
 use borrow.Author.Needs.{needs}
 use Rattle.hours.proofs.control.by_day.Statement.{statement}
 use Rattle.hours.proofs.control.by_day.Tie as tie
 
 abbrev Inv-loop : tie.InvT-loop
-Inv-loop part x days control counted₀ count₀ day₀ counted count day = SoFar (powerIn part x) (control .on) day (counted .0) count × (day ≤ days)
+Inv-loop part x days control counted₀ count₀ day₀ counted count day = SoFar (hourlyIn part x) (control .on) day (counted .0) count × (day ≤ days)
 
 abbrev μ-loop : tie.MeasureT-loop
 μ-loop part x days control counted₀ count₀ day₀ counted count day = days - day
@@ -24,7 +24,7 @@ element-copy-out-if1 : tie.Need-element-copy-out-if1 Inv-loop μ-loop
 element-copy-out-if1 c = search needs
 
 evening-sum-requires : tie.Need-evening-sum-requires Inv-loop μ-loop
-evening-sum-requires c κs = (fewer (c .before .before .before .before .before .args .part .now) (c .before .before .before .before .before .args .x) (omega arith) (c .before .before .before .before .before .pre .0), omega arith)
+evening-sum-requires c κs = (hourly-fewer (c .before .before .before .before .before .args .part .now) (c .before .before .before .before .before .args .x) (omega arith) (c .before .before .before .before .before .pre .0), omega arith)
 
 plus-requires : tie.Need-plus-requires Inv-loop μ-loop
 plus-requires c κs = search needs

@@ -5,14 +5,14 @@ use Rattle.rules.specs.Range.{sum}
 use Rattle.laws.proofs.Range.{sum-none, sum-fold, sum-done}
 use Rattle.laws.specs.Bounds.{mostWord}
 use Rattle.units.proofs.Adding.{added-exact}
-use Rattle.hours.specs.Series.{powerIn}
-use Rattle.hours.proofs.Standing.{fewer}
+use Rattle.hours.specs.Series.{hourlyIn}
+use Rattle.hours.proofs.Standing.{hourly-fewer}
 use borrow.Author.Needs.{needs}
 use Rattle.hours.proofs.control.evening_sum.Statement.{statement}
 use Rattle.hours.proofs.control.evening_sum.Tie as tie
 
 abbrev Inv-loop : tie.InvT-loop
-Inv-loop part x day total₀ t₀ total t = (total .0 ≡ sum (λ i. powerIn part x (24 * day + (17 + i))) t) × (total .0 ≤ mostWord * t) × (t ≤ 6)
+Inv-loop part x day total₀ t₀ total t = (total .0 ≡ sum (λ i. hourlyIn part x (24 * day + (17 + i))) t) × (total .0 ≤ mostWord * t) × (t ≤ 6)
 
 abbrev μ-loop : tie.MeasureT-loop
 μ-loop part x day total₀ t₀ total t = 6 - t
@@ -20,20 +20,17 @@ abbrev μ-loop : tie.MeasureT-loop
 loop-holds : tie.Need-loop-holds Inv-loop μ-loop
 loop-holds c = (sym (sum-none _), zero-le, zero-le)
 
-mul-power : tie.Need-mul-power Inv-loop μ-loop
-mul-power c = search needs
+mul-figure-at : tie.Need-mul-figure-at Inv-loop μ-loop
+mul-figure-at c = search needs
 
-add-power : tie.Need-add-power Inv-loop μ-loop
-add-power c = search needs
+add-figure-at : tie.Need-add-figure-at Inv-loop μ-loop
+add-figure-at c = search needs
 
-add-power-2 : tie.Need-add-power-2 Inv-loop μ-loop
-add-power-2 c = search needs
+add-figure-at-2 : tie.Need-add-figure-at-2 Inv-loop μ-loop
+add-figure-at-2 c = search needs
 
-power-requires : tie.Need-power-requires Inv-loop μ-loop
-power-requires c κs = (fewer (c .before .before .before .args .part .now) (c .before .before .before .args .x) (omega arith) (c .before .before .before .pre .0), omega (arith, c .before .before .before .pre .1))
-
-stated-requires : tie.Need-stated-requires Inv-loop μ-loop
-stated-requires c κs = search needs
+figure-at-requires : tie.Need-figure-at-requires Inv-loop μ-loop
+figure-at-requires c κs = (hourly-fewer (c .before .before .before .args .part .now) (c .before .before .before .args .x) (omega arith) (c .before .before .before .pre .0), omega (arith, c .before .before .before .pre .1))
 
 plus-requires : tie.Need-plus-requires Inv-loop μ-loop
 plus-requires c κs = search needs
@@ -46,10 +43,11 @@ loop-less c = search needs
 
 loop-again : tie.Need-loop-again Inv-loop μ-loop
 loop-again c =
-    let l = c .before .before .before .before .loop in
-    let more = c .plus .ensures ∙ added-exact _ _ (omega arith) in (
-      more ∙ sum-fold _ _ (l .inv .0) (c .before .stated .ensures .0 ∙ c .before .before .power .ensures),
-      omega (arith, more, c .before .stated .ensures .0),
+    let l = c .before .before .before .loop in
+    let figure = c .before .figure-at .ensures in
+    let more = c .plus .ensures ∙ added-exact _ _ (omega (arith, figure .1)) in (
+      more ∙ sum-fold _ _ (l .inv .0) (figure .0),
+      omega (arith, more, figure .1),
       omega arith,
     )
 
@@ -65,11 +63,10 @@ evening-sum-spec =
     Inv-loop
     μ-loop
     loop-holds
-    mul-power
-    add-power
-    add-power-2
-    power-requires
-    stated-requires
+    mul-figure-at
+    add-figure-at
+    add-figure-at-2
+    figure-at-requires
     plus-requires
     add-t
     loop-less

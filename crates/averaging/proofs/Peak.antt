@@ -1,0 +1,50 @@
+-- Net power in a record's hours, and the peak that comes of it. Assumes nothing.
+use mathlib.Core.Path.{_≡_, refl, ap₂, _∙_}
+use mathlib.Core.Bool.{Bool, true}
+use mathlib.Core.List.{List}
+use Prim.Native.Nat.{ℕ, _+_, _-_, _*_, _≤_, _<_}
+use native.Mathlib.Omega.{arith}
+use borrow.Author.Tests.{le-leb}
+use lib.ListN.{length, drop, length-drop}
+use Rattle.rules.specs.declared.Header.{Header}
+use Rattle.rules.specs.declared.Series.{Series}
+use Rattle.rules.specs.Range.{listed}
+use Rattle.rules.specs.Month.{hours}
+use Rattle.rules.specs.Sheet.{power}
+use Rattle.rules.specs.ControlHours.{average, controlSum, controlCount, controlAverage}
+use Rattle.rules.specs.ControlTable.{tableDay}
+use Rattle.rules.specs.ComplexRecord.{recordWidth, imported, drawnSeries, sentSeries, drawn, sent}
+use Rattle.rules.specs.Averaging.{net, complexPeak}
+use Rattle.laws.proofs.Fields.{read-drop}
+use Rattle.units.specs.Sums.{tenths}
+use Rattle.hours.specs.declared.control.Control.{Control}
+use Rattle.hours.specs.Series.{stands, powerIn, hourlyStands, hourlyIn}
+use Rattle.hours.proofs.Known.{control-known}
+use Rattle.complex_record.specs.Net.{netPower, netControl}
+
+module _ (h : Header) (r : List ℕ) (long : recordWidth h ≤ length r) where
+  -- A series stands in the hours, and is read there.
+  standing : (x : Series) → x .step ≡ 8 → x .start ≤ 4 → stands (length (drop 9 r)) x (hours h) ≡ true
+  unfolding stands
+  standing x by from =
+      let inside : x .start + x .step * hours h + 4 ≤ length (drop 9 r) + x .step = rw (by, length-drop) (omega (arith, long)) in
+      le-leb _ _ inside
+
+  read : (x : Series) (i : ℕ) → powerIn (drop 9 r) x i ≡ power r 9 x i
+  unfolding power
+  read x i = read-drop 4 9 r (x .start + x .step * i)
+
+  both-stand : hourlyStands (length (drop 9 r)) netPower (hours h) ≡ true
+  unfolding hourlyStands
+  both-stand = rw (standing drawnSeries refl (omega arith), standing sentSeries refl (omega arith))
+
+  net-read : (i : ℕ) → i < hours h → hourlyIn (drop 9 r) netPower i ≡ net r i
+  unfolding net drawn sent
+  net-read i b = ap₂ (λ (a b : ℕ). a - b) (read drawnSeries i) (read sentSeries i)
+
+  -- In a month that the table has.
+  module _ (few : h .days ≤ 31) (from : 1 ≤ h .weekday) (to : h .weekday ≤ 7) {on : List Bool} (days : on ≡ listed (tableDay h) 31) where
+    pub peak-known : {c : Control} {taken peak : ℕ} → c ≡ netControl r (h .days) on → taken ≡ imported r → peak ≡ average (c .counted .0) (c .count) - taken
+        → peak ≡ complexPeak h r
+    unfolding complexPeak controlAverage
+    peak-known counted less is = rw (is, counted, less, control-known h few from to days (drop 9 r) netPower (net r) both-stand net-read)

@@ -1,0 +1,42 @@
+-- The sum over the control hours is the control sum of the definitions, where the days that are marked are those of the table. Assumes nothing.
+use mathlib.Core.Path.{_≡_, refl, sym, ap, ap₂, _∙_}
+use mathlib.Core.Bool.{Bool, true, false}
+use mathlib.Core.List.{List}
+use Prim.Native.Nat.{ℕ, _+_, _*_, _≤_, _<_}
+use native.Mathlib.Omega.{arith}
+use borrow.Author.Tests.{le-leb}
+use lib.ListN.{length, getD}
+use Rattle.rules.specs.declared.Header.{Header}
+use Rattle.rules.specs.Range.{sum, when, listed}
+use Rattle.rules.specs.ControlHours.{controlDay, controlSum, controlCount}
+use Rattle.rules.specs.ControlTable.{tableDay}
+use Rattle.laws.proofs.Range.{sum-same}
+use Rattle.laws.proofs.Arrays.{getD-listed}
+use Rattle.laws.proofs.ControlHours.{evening, control-by-day, count-by-day}
+use Rattle.laws.proofs.ControlTable.{table-day}
+use Rattle.units.specs.Sums.{tenths}
+use Rattle.hours.specs.declared.control.Control.{Control}
+use Rattle.hours.specs.declared.series.Hourly.{Hourly}
+use Rattle.hours.specs.Series.{hourlyStands, hourlyIn}
+use Rattle.hours.specs.Control.{controlIn}
+
+module _ (h : Header) (few : h .days ≤ 31) (from : 1 ≤ h .weekday) (to : h .weekday ≤ 7) {on : List Bool} (days : on ≡ listed (tableDay h) 31) where
+  marked : (d : ℕ) → d < h .days → getD on d false ≡ controlDay h d
+  marked d b = rw days (getD-listed false (tableDay h) 31 d (omega arith)) ∙ table-day h d from to (omega arith)
+
+  count-known : sum (λ d. when (getD on d false) 6) (h .days) ≡ controlCount h
+  count-known = sum-same _ _ {n = h .days} refl (λ d b. ap (λ (t : Bool). when t 6) (marked d b)) ∙ sym (count-by-day h)
+
+  -- Of a series that the part has in every hour of the month.
+  module _ (part : List ℕ) (x : Hourly) (series : ℕ → ℕ) (standing : hourlyStands (length part) x (24 * h .days) ≡ true)
+      (read : (i : ℕ) → i < 24 * h .days → hourlyIn part x i ≡ series i) where
+    evening-read : (d : ℕ) → d < h .days → evening (hourlyIn part x) d ≡ evening series d
+    evening-read d b = sum-same _ _ {n = 6} refl (λ t q. read (24 * d + (17 + t)) (omega arith))
+
+    sum-known : sum (λ d. when (getD on d false) (evening (hourlyIn part x) d)) (h .days) ≡ controlSum h series
+    unfolding controlSum
+    sum-known = sum-same _ _ {n = h .days} refl (λ d b. ap₂ when (marked d b) (evening-read d b)) ∙ sym (control-by-day h series (h .days))
+
+    pub control-known : controlIn part x (h .days) on ≡ record { counted = tenths (controlSum h series); count = controlCount h }
+    unfolding controlIn
+    control-known = rw (le-leb (h .days) 31 few, standing, sum-known, count-known)
