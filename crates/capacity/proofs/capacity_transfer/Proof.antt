@@ -1,4 +1,5 @@
-use Rattle.capacity.proofs.Signed.{transfer-small, handed-on}
+use Rattle.rules.specs.Transfers.{transferOutcome}
+use Rattle.capacity.proofs.Signed.{done-small, handed-on}
 use borrow.Author.Needs.{needs}
 use Rattle.capacity.proofs.capacity_transfer.Statement.{statement}
 use Rattle.capacity.proofs.capacity_transfer.Tie as tie
@@ -7,7 +8,8 @@ transfer-requires : tie.Need-transfer-requires
 transfer-requires c κs = search needs
 
 in-c-requires : tie.Need-in-c-requires
-in-c-requires c κs = transfer-small _ _ (c .before .before .transfer .ensures .0)
+unfolding transferOutcome
+in-c-requires c κs = done-small _ (c .before .before .transfer .ensures .0)
 
 same-length : tie.Need-same-length
 same-length c = search needs
