@@ -8,5 +8,7 @@ pub mod Demand1
 pub mod Demand3
 pub mod Demands
 pub mod Alike
+pub mod OtherConsumers
 pub mod Transfers
+pub mod Averaging
 pub mod Requests

@@ -14,8 +14,10 @@ use Rattle.rules.specs.Fields.{over}
 use Rattle.rules.specs.Sheet.{headerOf, monthOf}
 use Rattle.rules.specs.Result.{resultOf}
 use Rattle.rules.specs.Refusals.{frontTests, headerTests, formTests, figureTests, sheetTests}
-use Rattle.rules.specs.Outcome.{refused, Accepted, bufferAfter}
+use Rattle.rules.specs.Outcome.{refused, Accepted, bufferAfter, done}
 use Rattle.rules.specs.Transfers.{contracts, listTests, turnTests, transferTests, transferRefusal, transferOutcome, volumesAfter, transferred, withVolumes}
+use Rattle.rules.specs.ComplexRecord.{complex}
+use Rattle.rules.specs.Averaging.{complexPeak, recordTests, averageTests, averageRefusal, averageOutcome, averaged, withPeakOf}
 use Rattle.laws.proofs.Arrays.{length-listed}
 use Rattle.laws.proofs.ControlTable.{line-length, entry-right, no-weekday, no-day, table-day}
 use Rattle.laws.proofs.Refusals.{limits}
@@ -23,7 +25,9 @@ use Rattle.theorems.specs.Demand1.{First}
 use Rattle.theorems.specs.Demand3.{WorseSheet, NoBetter}
 use Rattle.theorems.specs.Request1.{contractSum, OnlyContracts}
 use Rattle.theorems.proofs.Demand1 as Demand1
+use Rattle.theorems.specs.Request3.{OnlyPeak, HigherDrawn, OnlyLine, NoLower}
 use Rattle.theorems.proofs.Transfers as Transfers
+use Rattle.theorems.proofs.Averaging as Averaging
 
 -- Request 1: transfers of contract volume -------------------------------------------------------------------------------------------
 
@@ -35,7 +39,7 @@ module _ (s list : List ℕ) where
       Demand1.first (transferTests s list) (unfold transferTests sheetTests formTests frontTests headerTests figureTests listTests turnTests in tt) n e p
 
   pub transfer-refused-outcome : (transferRefusal s list ≡ 0 → ⊥) → transferOutcome s list ≡ refused (transferRefusal s list)
-  unfolding transferOutcome
+  unfolding transferOutcome done
   transfer-refused-outcome n = rw (ne-eqb _ _ n)
 
   pub transfer-refused-keeps : (transferRefusal s list ≡ 0 → ⊥) → transferred s list ≡ s
@@ -94,3 +98,49 @@ pub table-control-days : (s : List ℕ) (room : ℕ) → Accepted s room → (da
 table-control-days s room a day l =
     let h = limits s room a .form .header in
     table-day (headerOf s) day (h .weekday-from) (h .weekday-to) (omega (arith, h .days-to))
+
+-- Request 3: industrial complexes by averaging --------------------------------------------------------------------------------------
+
+module _ (s r : List ℕ) where
+  -- A refusal's number is that of the first test that applies, of the sheet and then of the record; it leaves the sheet as it was.
+  pub average-refused-first : (n : ℕ) → averageRefusal s r ≡ n → (n ≡ 0 → ⊥) → First (averageTests s r) n
+  unfolding averageRefusal
+  average-refused-first n e p =
+      Demand1.first (averageTests s r) (unfold averageTests sheetTests formTests frontTests headerTests figureTests recordTests in tt) n e p
+
+  pub average-refused-outcome : (averageRefusal s r ≡ 0 → ⊥) → averageOutcome s r ≡ refused (averageRefusal s r)
+  unfolding averageOutcome done
+  average-refused-outcome n = rw (ne-eqb _ _ n)
+
+  pub average-refused-keeps : (averageRefusal s r ≡ 0 → ⊥) → averaged s r ≡ s
+  average-refused-keeps = Averaging.refused-keeps s r
+
+  -- Only the four bytes of that consumer's peak can change, and an accepted sheet stays accepted with the same room, for every sheet and
+  -- every record.
+  pub average-one-field : OnlyPeak (complex r) s (averaged s r)
+  average-one-field = Averaging.one-field s r
+
+  -- The sheet afterwards states the peak of the definition, which is at most 10,000.0 MW.
+  pub average-peak : averageRefusal s r ≡ 0 → monthOf (averaged s r) .consumer (complex r) .peak ≡ complexPeak (headerOf s) r
+  average-peak = Averaging.peak-stated s r
+
+  pub average-peak-most : averageRefusal s r ≡ 0 → complexPeak (headerOf s) r ≤ 100000
+  average-peak-most = Averaging.peak-most s r
+
+  -- Its settlement is that of the month with that peak, byte for byte.
+  pub average-settled : (out : List ℕ) → Accepted s (length out) → averageRefusal s r ≡ 0
+      → bufferAfter (averaged s r) out ≡ over (resultOf (withPeakOf (monthOf s) (complex r) (complexPeak (headerOf s) r))) out
+  average-settled out a none = Averaging.settled s r none out a
+
+  -- And it has the lines of the settlement before, for every row and every other consumer, whatever the record.
+  pub average-only-line : (out out′ : List ℕ) → Accepted s (length out) → Accepted s (length out′)
+      → OnlyLine (headerOf s) (complex r) (bufferAfter s out) (bufferAfter (averaged s r) out′)
+  average-only-line = Averaging.line-kept s r
+
+-- Of two records that are taken for one sheet, alike but for higher powers drawn in the second, the settlement after the second gives that
+-- consumer no lower volume and no lower charge; every other consumer's line and every row's line is the same after both.
+pub average-no-lower : (s r r′ out out′ : List ℕ) → Accepted s (length out) → Accepted s (length out′)
+    → averageRefusal s r ≡ 0 → averageRefusal s r′ ≡ 0 → HigherDrawn (headerOf s) r r′
+    → NoLower (headerOf s) (complex r) (bufferAfter (averaged s r) out) (bufferAfter (averaged s r′) out′)
+    × OnlyLine (headerOf s) (complex r) (bufferAfter (averaged s r) out) (bufferAfter (averaged s r′) out′)
+average-no-lower s r r′ out out′ a a′ none none′ higher = Averaging.no-lower s r r′ none none′ higher out out′ a a′

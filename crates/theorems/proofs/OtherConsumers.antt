@@ -1,0 +1,140 @@
+-- A sheet that differs from another in its consumers alone: its month is the other with those consumers, and so is its result. Assumes
+-- nothing.
+use mathlib.Core.Path.{_≡_, refl, sym, ap, subst, _∙_}
+use mathlib.Core.List.{List}
+use Prim.Native.Nat.{ℕ, _+_, _*_, _≤_, _<_}
+use native.Mathlib.Nat.{add-zero, mul-le-mul-right}
+use native.Mathlib.Omega.{arith}
+use borrow.Author.Tests.{eq-eqb}
+use lib.ListN.{length, getD}
+use Rattle.rules.specs.declared.Header.{Header}
+use Rattle.rules.specs.declared.Consumer.{Consumer}
+use Rattle.rules.specs.declared.Layout.{Layout}
+use Rattle.rules.specs.Month.{Month, hours, withConsumers}
+use Rattle.rules.specs.Limits.{HeaderLimits, ConsumerLimits, FormLimits, MonthLimits}
+use Rattle.rules.specs.Fields.{bigEndian, over}
+use Rattle.rules.specs.Sheet.{version, lengthField, headerOf, layoutOf, monthOf, monthUnder, hoursWidth, producerAt, hoursAt, power, producerUnder, rowAt, rowOf, consumerAt, consumerOf, sheetLength}
+use Rattle.rules.specs.Result.{resultLength, resultOf}
+use Rattle.rules.specs.Outcome.{Accepted, bufferAfter}
+use Rattle.laws.proofs.Fields.{same-bytes}
+use Rattle.laws.proofs.Refusals.{limits, accepted}
+use Rattle.theorems.specs.Alike.{SameProducer, Alike}
+use Rattle.theorems.proofs.Alike.{alike-limits, alike-result}
+
+-- A producer below P, and a row below R, end where the consumers begin.
+producer-ends : (l : Layout) (p : ℕ) → p < l .header .producers → hoursAt l p + hoursWidth (l .header) ≤ consumerAt l 0
+unfolding consumerAt rowAt hoursAt producerAt
+producer-ends l p b = omega (arith, mul-le-mul-right (42 + 288 * l .header .days) b)
+
+row-ends : (l : Layout) (j : ℕ) → j < l .header .rows → rowAt l j + 10 ≤ consumerAt l 0
+unfolding consumerAt rowAt
+row-ends l j b = omega arith
+
+header-ends : (l : Layout) → 14 ≤ consumerAt l 0
+unfolding consumerAt rowAt producerAt
+header-ends l = omega arith
+
+-- t is as long as s, and has the same bytes before its consumers.
+module _ (s t : List ℕ) (as-long : length t ≡ length s) (front-kept : (i : ℕ) → i < consumerAt (layoutOf s) 0 → getD t i 0 ≡ getD s i 0) where
+  -- A field before the consumers.
+  front : (w at : ℕ) → at + w ≤ consumerAt (layoutOf s) 0 → bigEndian w t at ≡ bigEndian w s at
+  front w at e = same-bytes w t s at at (λ i b. front-kept (at + i) (omega arith))
+
+  in-header : (w at : ℕ) → at + w ≤ 14 → bigEndian w t at ≡ bigEndian w s at
+  in-header w at e = front w at (omega (arith, header-ends (layoutOf s)))
+
+  pub same-layout : layoutOf t ≡ layoutOf s
+  unfolding version
+  same-layout =
+      rw (
+        in-header 1 4 (omega arith),
+        in-header 1 5 (omega arith),
+        in-header 1 6 (omega arith),
+        in-header 4 7 (omega arith),
+        in-header 1 11 (omega arith),
+        in-header 1 12 (omega arith),
+        in-header 1 13 (omega arith),
+      )
+
+  same-length-field : lengthField t ≡ lengthField s
+  unfolding lengthField
+  same-length-field = in-header 4 0 (omega arith)
+
+  same-producer : (p : ℕ) → p < headerOf s .producers → SameProducer (hours (headerOf s)) (producerUnder (layoutOf s) s p) (producerUnder (layoutOf s) t p)
+  unfolding power
+  same-producer p b =
+      let ends = producer-ends (layoutOf s) p b in
+      let hour : (i k : ℕ) → i < 24 * headerOf s .days → k ≤ 8 → bigEndian 4 t (hoursAt (layoutOf s) p + (k + 12 * i)) ≡ bigEndian 4 s (hoursAt (layoutOf s) p + (k + 12 * i)) =
+      λ i k q r. front 4 (hoursAt (layoutOf s) p + (k + 12 * i)) (omega (arith, ends)) in
+      let stated : (w k : ℕ) → k + w ≤ 42 → bigEndian w t (producerAt (layoutOf s) p + k) ≡ bigEndian w s (producerAt (layoutOf s) p + k) =
+      λ w k q. front w (producerAt (layoutOf s) p + k) (unfold hoursAt in omega (arith, ends)) in
+      record {
+        attested = rw add-zero at (stated 4 0 (omega arith));
+        deductible = stated 4 4 (omega arith);
+        ownNeeds = stated 4 8 (omega arith);
+        noUpwardBid = stated 2 12 (omega arith);
+        noDownwardBid = stated 2 14 (omega arith);
+        noPlan = stated 2 16 (omega arith);
+        k3 = stated 4 18 (omega arith);
+        k6 = stated 4 22 (omega arith);
+        k7 = stated 4 26 (omega arith);
+        k8 = stated 4 30 (omega arith);
+        k9 = stated 4 34 (omega arith);
+        k10 = stated 4 38 (omega arith);
+        working = λ i q. hour i 0 q (omega arith);
+        possible = λ i q. hour i 4 q (omega arith);
+        outsideUse = λ i q. hour i 8 q (omega arith);
+      }
+
+  same-row : (j : ℕ) → j < headerOf s .rows → rowOf t (rowAt (layoutOf s) j) ≡ rowOf s (rowAt (layoutOf s) j)
+  same-row j b =
+      let ends = row-ends (layoutOf s) j b in
+      rw (
+        front 1 (rowAt (layoutOf s) j) (omega (arith, ends)),
+        front 1 (rowAt (layoutOf s) j + 1) (omega (arith, ends)),
+        front 4 (rowAt (layoutOf s) j + 2) (omega (arith, ends)),
+        front 4 (rowAt (layoutOf s) j + 6) (omega (arith, ends)),
+      )
+
+  -- Its consumers are those of k.
+  module _ (k : ℕ → Consumer) (read : (c : ℕ) → c < headerOf s .consumers → consumerOf t (consumerAt (layoutOf s) c) ≡ k c) where
+    pub month-after : Alike (withConsumers (monthOf s) k) (monthOf t)
+    month-after =
+        subst (λ (x : Layout). Alike (withConsumers (monthOf s) k) (monthUnder x t)) (sym same-layout)
+        (record { header = refl; producer = same-producer; row = same-row; consumer = read })
+
+    -- Where they keep to their limits, an accepted sheet stays accepted.
+    module _ (form : FormLimits s) (fine : (c : ℕ) → c < headerOf s .consumers → ConsumerLimits (headerOf s) (k c)) where
+      pub with-limits : MonthLimits (monthOf s) → MonthLimits (withConsumers (monthOf s) k)
+      with-limits w = record { header = w .header; producer = w .producer; row = w .row; consumer = fine }
+
+      header-kept : headerOf t ≡ headerOf s
+      header-kept = ap (λ (x : Layout). x .header) same-layout
+
+      form-after : FormLimits t
+      form-after =
+          record {
+            whole-header = rw as-long (form .whole-header);
+            length-told = same-length-field ∙ form .length-told ∙ sym as-long;
+            version-1 = ap (λ (x : Layout). x .version) same-layout ∙ form .version-1;
+            header = subst HeaderLimits (sym header-kept) (form .header);
+            length-right = same-length-field ∙ form .length-right ∙ ap sheetLength (sym same-layout);
+          }
+
+      pub stays : (bytes : ℕ) → Accepted s bytes → Accepted t bytes
+      stays bytes a =
+          let w = limits s bytes a in
+          accepted t bytes
+          (record {
+            form = form-after;
+            enough-room = subst (λ (h : Header). resultLength h ≤ bytes) (sym header-kept) (w .enough-room);
+            month = alike-limits (withConsumers (monthOf s) k) (monthOf t) month-after (with-limits (w .month));
+          })
+
+      -- And its result is that of the month with these consumers.
+      pub settled : (out : List ℕ) → Accepted s (length out) → bufferAfter t out ≡ over (resultOf (withConsumers (monthOf s) k)) out
+      unfolding bufferAfter
+      settled out a =
+          rw (eq-eqb _ _ (stays (length out) a))
+          (ap (λ (x : List ℕ). over x out)
+          (alike-result (withConsumers (monthOf s) k) (monthOf t) month-after (with-limits (limits s (length out) a .month))))
