@@ -347,6 +347,6 @@ module _ (s : List ℕ) where
           let l = whole s r none .complex in (
             record { volume = better .consumer-volume _ l; charge = better .consumer-charge _ l; total-charged = better .total-charged },
             only-line (monthOf s) (complex r) (month s r .consumer) (withPeakOf (monthOf s) (complex r) (complexPeak (headerOf s) r′) .consumer)
-            (λ d n. other-peak (monthOf s) (complex r) _ d n ∙ sym (other-peak (monthOf s) (complex r) _ d n))
-            (with-kept s r none) kept′ first second begun begun′,
+                (λ d n. other-peak (monthOf s) (complex r) _ d n ∙ sym (other-peak (monthOf s) (complex r) _ d n))
+                (with-kept s r none) kept′ first second begun begun′,
           )
