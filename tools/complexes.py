@@ -6,7 +6,7 @@ peak is written into the sheet by the proved program, and its answer holds.
 """
 from typing import NamedTuple
 
-from changes import Change, consumer_figure, consumers_words, lister_of, sheet_of
+from changing import Change, consumer_figure, consumers_words, lister_of, sheet_of
 from files import Trouble
 from kinds import RECORD, RECORD_TEXT, begun_as, ending_of
 from monthtext import MOST_LINES, Faults, at, check_head, csv_figures, csv_text, figure_of, line_shown, text_lines

@@ -7,7 +7,7 @@ import io
 import json
 from typing import NamedTuple
 
-from changes import Change
+from changing import Change
 from inputs import CHANGES, Given
 from printing import WEEKDAYS, party_cells, table_lines
 from records import CAPACITY, PRICE, SINGLE_BUYER, SINGLE_BUYER_WORDS, Z, Header, Sheet, figures_of_result

@@ -3,7 +3,7 @@ bytes or as texts, which are packed."""
 import argparse
 from typing import NamedTuple
 
-from changes import lister_of
+from changing import lister_of
 from complexes import GivenRecord
 from files import CHECK, STANDARD, Trouble, name_of, read_bytes
 from kinds import LISTS, MONTH_TEXT, MONTHS, RECORDS, kind_of

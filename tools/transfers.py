@@ -5,7 +5,7 @@ are applied by the proved program, and its answer holds.
 """
 from collections import Counter
 
-from changes import Change, consumer_figure, consumers_words, lister_of, sheet_of
+from changing import Change, consumer_figure, consumers_words, lister_of, sheet_of
 from files import Trouble
 from kinds import LIST, LIST_TEXT, begun_as
 from monthtext import csv_figures, csv_lines, csv_text, figure_of
