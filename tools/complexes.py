@@ -102,7 +102,8 @@ def unlikely_records(records, month, names):
             yield f"{each.name}: the peak comes to 0"
     for consumer, found in by_consumer.items():
         if len(found) > 1:
-            yield f"{names.label('consumer', consumer)} has {len(found)} records, and the last holds: {', '.join(found)}"
+            label = names.label("consumer", consumer)
+            yield f"{label} has {len(found)} records, and the last holds: {', '.join(found)}"
 
 
 # ------------------------------------------------------------------ a record as it is given
@@ -140,12 +141,12 @@ class GivenRecord(Change):
         return complex_of(self.content)
 
     def form_faults(self):
-        count = len(self.content)
-        if count < COMPLEX_FRONT:
-            yield 0, f"the record ends after {count} bytes; its length, consumer and imported power take {COMPLEX_FRONT}"
+        count, front = len(self.content), COMPLEX_FRONT
+        if count < front:
+            yield 0, f"the record ends after {count} bytes; its length, consumer and imported power take {front}"
             return
         length, *_ = COMPLEX_PACKING.unpack_from(self.content)
-        surplus = (length - COMPLEX_FRONT) % COMPLEX_HOUR
+        surplus = (length - front) % COMPLEX_HOUR
         if length != count:
             text = begun_as(self.content)
             yield 0, f"length, {length}, but there are {count} bytes" + (f"; it {text}" if text else "")

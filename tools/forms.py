@@ -126,7 +126,8 @@ def as_csv(answers):
     lines = csv.DictWriter(text, COLUMNS, lineterminator="\n")
     lines.writeheader()
     for answer in answers:
-        month = {"month": in_utf8(answer.given.name), **{kind.many: " ".join(answer.names_of(kind)) for kind in CHANGES}}
+        names = {kind.many: " ".join(answer.names_of(kind)) for kind in CHANGES}
+        month = {"month": in_utf8(answer.given.name), **names}
         lines.writerows({**month, **record} for record in csv_records(answer))
     return text.getvalue()
 

@@ -142,8 +142,8 @@ EXPLAINED = [
 # All of it wrong at once: the consumer, the count of hours, and powers.
 WRONG = f"consumer,2\nimported,10000.1\ndrawn,sent\n{HOURS[11:-11]}10000.1,429496729.5\n"
 ALL_WRONG = """\
-refusal 16: the record's length is not what its bytes and the days of the month ask for, or it names no consumer of the \
-sheet
+refusal 16: the record's length is not what its bytes and the days of the month ask for, or it names no consumer of \
+the sheet
   wrong.complex.csv, line 746: here the hours end, 743 of them (the month has 744)
   wrong.complex.csv, line 1: consumer, 2 (the sheet has consumers 0 to 1)
 refusal 17: a power in the record is above 10000.0 MW

@@ -338,8 +338,7 @@ def test_kinds(folder):
         (["--transfers=-x.TOML"], f"./-x.TOML: {NOT_A_LIST}"),
         (["examples/plant.complex"], f"examples/plant.complex: {RECORD_NO_MONTH}"),
         (["--table", "none.Complex.CSV"], f"none.Complex.CSV: {RECORD_NO_MONTH}"),
-        (["--complex", "examples/plant.complex", "-x.complex", month], f"there is no option -x.complex; ./settle --help "
-         "has the use"),
+        (["--complex", "examples/plant.complex", "--", "-x.complex"], f"./-x.complex: {RECORD_NO_MONTH}"),
         (["--transfers", "examples/plant.complex.csv", month], f"examples/plant.complex.csv: {RECORD_NO_LIST}"),
         (["--transfers", "a.COMPLEX", month], f"a.COMPLEX: {RECORD_NO_LIST}"),
         (["--complex", "examples/transfers.csv", month], f"examples/transfers.csv: is a list {NOT_A_RECORD}"),
@@ -362,33 +361,24 @@ FIRST_FIELDS = {
 
 
 def test_transfers(folder):
-    """Lists on the command line: names, several, pipes, refusals, forms, what needs Python, wrong use."""
-    house = house_for(LISTS, folder)
-    check_names(LISTS, house, folder)
-    check_order(house, folder)
-    check_refused(LISTS, house)
-    check_written(LISTS, house, folder)
-    check_wrong_files(LISTS, house)
-    check_other_output(LISTS, house)
+    check_change(LISTS, folder, check_order)
 
 
 def test_complexes(folder):
-    """The same of records; lists and records together, in the order given."""
-    house = house_for(RECORDS, folder)
-    check_names(RECORDS, house, folder)
-    check_both(house, folder)
-    check_refused(RECORDS, house)
-    check_written(RECORDS, house, folder)
-    check_wrong_files(RECORDS, house)
-    check_other_output(RECORDS, house)
+    check_change(RECORDS, folder, check_both)
 
 
-def house_for(kind, folder):
-    """A house with the programs that a kind of change needs."""
+def check_change(kind, folder, check_several):
+    """Lists or records on the command line: names, several, pipes, refusals, forms, what needs Python, wrong use."""
     house = House(folder / "built")
     done = house.settle(kind.option, kind.files()[1], MONTH)
     check(done.stdout == LISTINGS[kind.after], f"settle {kind.option}", words_of(done))
-    return house
+    check_names(kind, house, folder)
+    check_several(house, folder)
+    check_refused(kind, house)
+    check_written(kind, house, folder)
+    check_wrong_files(kind, house)
+    check_other_output(kind, house)
 
 
 def check_names(kind, house, folder):

@@ -1,5 +1,6 @@
-"""tools/report with lists of transfers, as ./settle starts it: listings, forms, the changed sheet, order, statuses. What
-is the same of records of complexes is tested of both."""
+"""tools/report with lists of transfers, as ./settle starts it: listings, forms, the changed sheet, order, statuses.
+
+What is the same of records of complexes is tested of both."""
 import csv
 import io
 import json
@@ -8,11 +9,11 @@ import tempfile
 import programs
 import records
 import transfers
-from checks import CHANGES, EXAMPLES, LISTS, check, files_in, report, run, turned_down, words_of
+from checks import CHANGES, EXAMPLES, LISTS, ROOT, check, files_in, report, run, turned_down, words_of
 from transfers import Transfer
 
-STORED = EXAMPLES.parent / "crates" / "vectors" / "data" / "transfers"
-STORED_LISTS = 21    # docs/EVIDENCE.md
+# Stored cases, in crates/vectors/data, and how many there are (docs/EVIDENCE.md).
+STORED = ((LISTS, "transfers", 21),)
 MONTHS = EXAMPLES / "month.toml", EXAMPLES / "month.sheet"
 CHANGED = (EXAMPLES / "month-transferred.sheet").read_bytes()
 LISTING = (EXAMPLES / "month-transferred.listing").read_text()
@@ -35,13 +36,14 @@ def written(kind, packed, content):
 
 
 def test_stored(folder):
-    """The program that applies lists, alone, on the stored cases."""
-    stored = list(programs.stored_lists(STORED.read_bytes()))
-    check(len(stored) == STORED_LISTS, f"transfer_sheet: {len(stored)} stored lists")
-    for count, (sheet, packed, answer) in enumerate(stored):
-        (folder / "list").write_bytes(packed)
-        wanted = b"N%d\n" % answer if isinstance(answer, int) else answer
-        check(written(LISTS, folder / "list", sheet) == wanted, f"transfer_sheet: stored list {count}")
+    """The programs that apply lists and records, alone, on the stored cases."""
+    for kind, name, count in STORED:
+        stored = list(programs.stored_lists((ROOT / "crates" / "vectors" / "data" / name).read_bytes()))
+        check(len(stored) == count, f"{kind.program.name}: {len(stored)} stored cases")
+        for place, (sheet, packed, answer) in enumerate(stored):
+            (folder / "packed").write_bytes(packed)
+            wanted = b"N%d\n" % answer if isinstance(answer, int) else answer
+            check(written(kind, folder / "packed", sheet) == wanted, f"{kind.program.name}: stored case {place}")
 
 
 def test_programs():
@@ -280,8 +282,8 @@ def check_program(kind, folder, program):
     words = [kind.option, packed, MONTHS[1]]
     for said in (b"", b"N", b"N13", b"N13\nN13\n", after[:-1], after + b"\0", b"\1" + after[1:], b"\0", b"\xff\n"):
         (folder / "program.writes").write_bytes(said)
-        turned_down("a bad program", folder, words, f"settle: what the program wrote for {packed} is neither a sheet nor "
-                    "a refusal", status=2, command=report, **program)
+        turned_down("a bad program", folder, words, f"settle: what the program wrote for {packed} is neither a sheet "
+                    "nor a refusal", status=2, command=report, **program)
     number = b"N%d\n" % kind.refused[-1]
     (folder / "program.writes").write_bytes(number)
     done = report("--explain", *words, **program)
