@@ -9,22 +9,19 @@ STANDARD = "-"              # standard input or output in place of a file
 MOST_TEXT = 16 * 2 ** 20    # bytes; the text of the largest month is a hundredth of that
 
 
+CHECK = "tools/sheet check"
+
+
 class Trouble(Exception):
     """What keeps the work from being done: the file, the line or key, and the reason; a line for each fault."""
-    lister = "tools/sheet check"     # the command that prints all lines
 
-    def __init__(self, *lines):
+    def __init__(self, *lines, lister=CHECK):
         super().__init__(*lines)
-        self.lines = lines
+        self.lines, self.lister = lines, lister     # lister: the command that prints all lines
 
     def __str__(self):
         more = len(self.lines) - 1
         return self.lines[0] + (f" (and {more} more; {self.lister} lists them all)" if more else "")
-
-
-class ListTrouble(Trouble):
-    """The same with a list of transfers, which is checked with its month."""
-    lister = "tools/sheet check --transfers LIST MONTH"
 
 
 def name_of(path):

@@ -7,7 +7,8 @@ import io
 import json
 from typing import NamedTuple
 
-from inputs import Given
+from changing import Change
+from inputs import CHANGES, Given
 from printing import WEEKDAYS, party_cells, table_lines
 from records import CAPACITY, PRICE, SINGLE_BUYER, SINGLE_BUYER_WORDS, Z, Header, Sheet, figures_of_result
 
@@ -17,12 +18,13 @@ CONSUMER_HEADS = (("consumer", ""), ("contract", "MW"), ("peak", "MW"), ("credit
                   ("actual", "MW"), ("price", "tenge/MW"), ("charge", "tenge"))
 COLUMNS = ("month", "record", "row", "producer", "producer_name", "consumer", "consumer_name", "volume",
            "contract_volume", "peak", "price", "volume_after_cut", "credit", "percent", "n", "actual_volume", "payment",
-           "charge", "refusal", "words", "byte", "field", "list", "transfers")
+           "charge", "refusal", "words", "byte", "field",
+           *(key for kind in CHANGES for key in (kind.one, kind.many)))
 
 
 class Refused(NamedTuple):
     number: int      # the program's
-    list: str        # the name of the list that is refused; None if the sheet is
+    change: Change   # the list or record that is refused; None if the sheet is
     words: str
     byte: int        # and what follows: None where the aid in refusals.py has another answer than the program
     field: str
@@ -30,11 +32,15 @@ class Refused(NamedTuple):
 
 
 class Answer(NamedTuple):
-    given: Given         # the month as it was settled: after its lists of transfers
+    given: Given         # the month as it was settled: after its lists and records
     listing: str         # as the program printed it
     refused: Refused     # or None,
     result: bytes        # and then these are the result's bytes, laid out from the listing
-    lists: tuple = ()    # the names of the lists, in their order
+    changes: tuple = ()  # the lists and records, in their order
+
+    def names_of(self, kind):
+        """The names of the lists, or of the records, in their order."""
+        return [in_utf8(each.name) for each in self.changes if isinstance(each, kind)]
 
 
 # ------------------------------------------------------------------ records with names and figures
@@ -87,7 +93,7 @@ def month_lines(answer):
         "contract_volume", "peak", "credit", "percent", "n", "actual_volume", "price", "charge"))]
         for consumer in by_consumer]
     consumers.append(["total charged", *[""] * 7, parted(totals["charged"])])
-    title = ", after ".join([month_words(given), *answer.lists])
+    title = ", after ".join([month_words(given), *(each.name for each in answer.changes)])
     return [f"{given.name}: {title}", "", *headed(ROW_HEADS, rows, (1, 2)), "",
             *headed(CONSUMER_HEADS, consumers, (0,))]
 
@@ -120,7 +126,8 @@ def as_csv(answers):
     lines = csv.DictWriter(text, COLUMNS, lineterminator="\n")
     lines.writeheader()
     for answer in answers:
-        month = {"month": in_utf8(answer.given.name), "transfers": in_utf8(" ".join(answer.lists))}
+        names = {kind.many: " ".join(answer.names_of(kind)) for kind in CHANGES}
+        month = {"month": in_utf8(answer.given.name), **names}
         lines.writerows({**month, **record} for record in csv_records(answer))
     return text.getvalue()
 
@@ -137,7 +144,8 @@ def csv_records(answer):
 
 
 def refusal_record(refused):
-    return {"number": refused.number, "list": in_utf8(refused.list), "words": refused.words, "byte": refused.byte,
+    names = {kind.one: in_utf8(refused.change.name) if isinstance(refused.change, kind) else None for kind in CHANGES}
+    return {"number": refused.number, **names, "words": refused.words, "byte": refused.byte,
             "field": in_utf8(refused.field)}
 
 
@@ -146,7 +154,7 @@ def as_json(answers):
     months = []
     for answer in answers:
         rows, consumers, totals = ([], [], None) if answer.refused else records_of(answer)
-        months.append({"month": in_utf8(answer.given.name), "transfers": [in_utf8(name) for name in answer.lists],
+        months.append({"month": in_utf8(answer.given.name), **{kind.many: answer.names_of(kind) for kind in CHANGES},
                        "refusal": answer.refused and refusal_record(answer.refused), "rows": rows,
                        "consumers": consumers, "totals": totals})
     return json.dumps(months, indent=1) + "\n"

@@ -11,7 +11,8 @@ from array import array
 from contextlib import contextmanager
 from typing import NamedTuple
 
-from files import Trouble, read_text
+from files import CHECK, Trouble, read_text
+from kinds import begun_as, kind_of
 from names import LONGEST_NAME, Names, wrong_character
 from records import (BUYER, CONSUMER_FIELDS, DAYS, HEADER_FIELDS, HOUR_FIELDS, HOURS, PLAIN, PRODUCER_FIELDS,
                      PRODUCER_NUMBER, ROW_FIELDS, SINGLE_BUYER, SINGLE_BUYER_WORDS, Consumer, Month, Producer, Row,
@@ -48,9 +49,9 @@ class Faults:
         except Trouble as trouble:
             self.lines.extend(trouble.lines)
 
-    def tell(self, kind=Trouble):
+    def tell(self, lister=CHECK):
         if self.lines:
-            raise kind(*self.lines)
+            raise Trouble(*self.lines, lister=lister)
 
 
 def shown(value):
@@ -338,18 +339,36 @@ def csv_head(fields):
     return ",".join(field.key for field in fields)
 
 
+def text_lines(path):
+    """The lines of a text; after the end of the last one no further line begins."""
+    lines = read_text(path).split("\n")
+    return lines[:-1] if len(lines) > 1 and lines[-1] == "" else lines
+
+
 def csv_lines(path, fields):
     """The lines of a CSV file after its head, which has the fields' keys."""
-    (first, *lines), head = read_text(path).split("\n"), csv_head(fields)
-    if first.replace(" ", "").rstrip("\r") != head:
-        raise Trouble(f"{path}, line 1: is {shown(first.strip()) if first.strip() else 'empty'}, not {head}")
-    return lines[:-1] if lines and lines[-1] == "" else lines
+    first, *lines = text_lines(path)
+    check_head(first, fields, path)
+    return lines
 
 
-def csv_figures(path, lines, fields, figure=figure_of, most=None):
-    """The figures of each line after the head. Lines that are wrong are told one by one, at most so many."""
+def check_head(line, fields, path, number=1):
+    """Turns down a line that is not the head. The text of something else is told by its beginning."""
+    if line.replace(" ", "").rstrip("\r") != csv_head(fields):
+        other = begun_as(line.encode(), other_than=kind_of(path)) if number == 1 else ""
+        raise Trouble(f"{path}, line {number}: is {line_shown(line)}, not {csv_head(fields)}"
+                      + (f"; it {other}" if other else ""))
+
+
+def line_shown(line):
+    return shown(line.strip()) if line.strip() else "empty"
+
+
+def csv_figures(path, lines, fields, figure=figure_of, most=None, first=2):
+    """The figures of each line after the head; first is the number of the first one. Lines that are wrong are told one
+    by one, at most so many."""
     found, wrong = [], []
-    for number, line in enumerate(lines, 2):
+    for number, line in enumerate(lines, first):
         try:
             found.append(read_line(line, fields, figure))
         except Trouble as trouble:

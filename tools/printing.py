@@ -1,7 +1,7 @@
 """A sheet as tables for people, and a result as the listing prints it."""
 from names import NO_NAMES, width
 from records import (CAPACITY, CONSUMER_FIELDS, HEADER, HEADER_FIELDS, PRICE, PRODUCER_FIELDS, ROW_FIELDS,
-                     SINGLE_BUYER, SINGLE_BUYER_WORDS, Header, Sheet, figures_of_result, rounded)
+                     SINGLE_BUYER, SINGLE_BUYER_WORDS, Header, Sheet, figures_of_result)
 
 WEEKDAYS = ("Monday", "Tuesday", "Wednesday", "Thursday", "Friday", "Saturday", "Sunday")
 PRODUCER_HEADS = ("producer", "attested", "deductible", "own needs", "no upward bid", "no downward bid", "no plan",
@@ -85,9 +85,8 @@ def party_cells(row, names):
 
 def hour_cells(producer, month):
     """The sums of a producer's powers, and the control average of its outside use."""
-    control = month.control_hours()
-    average = rounded(sum(producer.outside[hour] for hour in control), len(control)) if control else 0
-    return [*(CAPACITY.text(sum(powers)) for powers in producer.powers()), str(len(control)), CAPACITY.text(average)]
+    return [*(CAPACITY.text(sum(powers)) for powers in producer.powers()), str(len(month.control_hours())),
+            CAPACITY.text(month.control_average(producer.outside))]
 
 
 def end_lines(content, header):

@@ -2,8 +2,8 @@
 the figures of a result.
 
 Layout and limits are those of document 01: "Units and the sheet", "Result" and "When a sheet is turned down"; of a list
-and of a complex those of requests 1 and 3 of document 02. Capacities, powers, volumes, peaks and amounts are in tenths of a megawatt, prices in
-tiyn, coefficients in millionths.
+and of a complex those of requests 1 and 3 of document 02. Capacities, powers, volumes, peaks and amounts are in tenths
+of a megawatt, prices in tiyn, coefficients in millionths.
 """
 import struct
 import sys
@@ -180,6 +180,11 @@ class Month(NamedTuple):
                 found.extend(24 * day + hour for hour in CONTROL_HOURS)
         return found
 
+    def control_average(self, powers):
+        """The average of hourly powers over the control hours, to a tenth and a half upward; 0 if there is none."""
+        control = self.control_hours()
+        return rounded(sum(powers[hour] for hour in control), len(control)) if control else 0
+
 
 class Header(NamedTuple):
     length: int
@@ -353,9 +358,9 @@ class Sheet:
 
 
 class Entry(NamedTuple):
-    """A field that stands in a sheet."""
+    """A field that stands in a sheet, or in what is given with one."""
     place: int       # of its first byte
-    record: str      # "producer", "row" or "consumer"
+    record: str      # "producer", "row", "consumer", "entry" of a list; None in a complex's record, which is one
     number: int      # of the record, from 0
     hour: int        # from 0; None for a field that is not one of the hours
     field: Field
@@ -363,9 +368,12 @@ class Entry(NamedTuple):
 
     def where(self, names=None):
         """The field in words; names has those of producers and consumers, if they are known."""
-        record = names.label(self.record, self.number) if names else f"{self.record} {self.number}"
-        hour = "" if self.hour is None else f", {hour_words(self.hour)}"
-        return f"{record}{hour}, {self.field.words}"
+        parts = []
+        if self.record is not None:
+            parts.append(names.label(self.record, self.number) if names else f"{self.record} {self.number}")
+        if self.hour is not None:
+            parts.append(hour_words(self.hour))
+        return ", ".join([*parts, self.field.words])
 
 
 def hour_words(hour):

@@ -42,7 +42,8 @@ RULES = {
     14: f"an entry was filed after day {LAST_FILING_DAY}",
     15: "at its turn, an entry asks more than its giver has, or brings its taker above "
         f"{CAPACITY.text(TOP_CAPACITY)} MW",
-    16: "the record's length is not what its bytes and the days of the month ask for, or it names no consumer of the sheet",
+    16: "the record's length is not what its bytes and the days of the month ask for, or it names no consumer of the "
+        "sheet",
     17: f"a power in the record is above {CAPACITY.text(TOP_CAPACITY)} MW",
 }
 
@@ -76,8 +77,8 @@ class Refusal(NamedTuple):
     entry: Entry = None     # any other field,
     allowed: str = ""       # and what is allowed there
     remark: str = ""
-    source: str = ""        # the list that it stands in, if not in the sheet,
-    line: int = None        # and its line in the list's text
+    source: str = ""        # the list or record that it stands in, if not in the sheet,
+    line: int = None        # and its line in the text of this
 
     @property
     def rule(self):
@@ -86,12 +87,15 @@ class Refusal(NamedTuple):
     def field(self, names=None):
         """The field and what is wrong with it."""
         if self.entry is None:
-            return f"{self.in_list()}{self.said}{self.remark}"
-        return f"{self.in_list()}{self.entry.where(names)}, {self.figure()}{self.remark}"
+            return f"{self.in_source()}{self.said}{self.remark}"
+        return f"{self.in_source()}{self.entry.where(names)}, {self.figure()}{self.remark}"
 
-    def in_list(self):
-        """In front of a list's field: its name, and the line or the byte."""
-        return f"{self.source}, {f'line {self.line}' if self.line else f'byte {self.place}'}: " if self.source else ""
+    def in_source(self):
+        """In front of a list's or record's field: the name, and the line or the byte."""
+        return f"{self.source}, {self.line_or_byte()}: " if self.source else ""
+
+    def line_or_byte(self):
+        return f"line {self.line}" if self.line else f"byte {self.place}"
 
     def figure(self):
         unit = self.entry.field.unit

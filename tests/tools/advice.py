@@ -193,10 +193,10 @@ def test_averages():
 
 def test_order():
     """The order in which numbers are tried is one list; what is first goes by it, not by size."""
-    numbers = (*refusals.TRIED, *refusals.TRIED_IN_LIST)
+    numbers = (*refusals.TRIED, *refusals.TRIED_IN_LIST, *refusals.TRIED_IN_RECORD)
     check(sorted(numbers) == sorted(refusals.RULES), "refusals: every number has its rule and its turn")
     check([refusals.turn(number) for number in numbers] == list(range(len(numbers))),
-          "refusals: a list's numbers are tried after the sheet's")
+          "refusals: the numbers of a list and of a record are tried after the sheet's")
     content = bytearray((EXAMPLES / "refused-9.sheet").read_bytes())
     content[26:28] = b"\xff\xff"
     kept = refusals.TRIED

@@ -205,8 +205,8 @@ def test_other_programs(folder):
                     "is no listing of this sheet", status=2, command=report, program=program)
     (folder / "program.says").write_text("N20\\n")
     month, = json.loads(form("json", "small.sheet", program=program, folder=EXAMPLES))
-    wanted = {"number": 20, "list": None, "words": "a rule that tools/refusals.py does not know", "byte": None,
-              "field": None}
+    wanted = {"number": 20, "list": None, "complex": None, "words": "a rule that tools/refusals.py does not know",
+              "byte": None, "field": None}
     check(month["refusal"] == wanted, "a number that the tools do not know", str(month))
     done = report("--explain", "small.sheet", program=program, folder=EXAMPLES)
     check(b"has another answer; the program's holds" in done.stderr, "--explain: another answer", words_of(done))

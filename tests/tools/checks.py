@@ -7,13 +7,43 @@ import subprocess
 import sys
 import traceback
 from pathlib import Path
+from typing import NamedTuple
 
 ROOT = Path(__file__).resolve().parents[2]
 SHEET = ROOT / "tools" / "sheet"
 REPORT = ROOT / "tools" / "report"
 PROGRAM = ROOT / "target" / "bin" / "settle"
 TRANSFER_PROGRAM = ROOT / "target" / "bin" / "transfer_sheet"
+AVERAGE_PROGRAM = ROOT / "target" / "bin" / "average_sheet"
 EXAMPLES = ROOT / "examples"
+
+
+class Kind(NamedTuple):
+    """A kind of what changes a month, with its examples, which are for the sheet `month`."""
+    option: str
+    name: str         # of the example that is applied; the others are refused
+    text: str         # how names end, of texts
+    packed: str       # and of bytes
+    refused: tuple    # the numbers, by which the other examples are named
+    after: str        # the name of the sheet afterwards
+    program: Path     # that applies it
+    keyword: str      # of report, for another program
+    command: str      # of the rival
+
+    def files(self, name=None):
+        """An example as text and as bytes."""
+        return EXAMPLES / f"{name or self.name}{self.text}", EXAMPLES / f"{name or self.name}{self.packed}"
+
+    def words(self, *paths):
+        """The options for these files."""
+        return [word for path in paths for word in (self.option, path)]
+
+
+LISTS = Kind("--transfers", "transfers", ".csv", ".list", (13, 14, 15), "month-transferred", TRANSFER_PROGRAM,
+             "transfer_program", "transfer")
+RECORDS = Kind("--complex", "plant", ".complex.csv", ".complex", (16, 17), "month-averaged", AVERAGE_PROGRAM,
+               "average_program", "average")
+CHANGES = LISTS, RECORDS
 
 passed = failed = 0
 
@@ -60,9 +90,10 @@ def sheet(*words, **more):
     return run_here(SHEET, *words, **more)
 
 
-def report(*words, program=PROGRAM, transfer_program=TRANSFER_PROGRAM, **more):
+def report(*words, program=PROGRAM, transfer_program=TRANSFER_PROGRAM, average_program=AVERAGE_PROGRAM, **more):
     """tools/report, in this process."""
-    return run_here(REPORT, "--program", program, "--transfer-program", transfer_program, *words, **more)
+    return run_here(REPORT, "--program", program, "--transfer-program", transfer_program, "--average-program",
+                    average_program, *words, **more)
 
 
 def run_here(command, *words, stdin=b"", folder=None):

@@ -4,13 +4,14 @@ import random
 import struct
 from typing import NamedTuple
 
+import changing
 import inputs
 import names
 import programs
 import records
 import refusals
 import transfers
-from checks import EXAMPLES, SHEET, check, run, sheet, turned_down, words_of
+from checks import EXAMPLES, LISTS, SHEET, check, run, sheet, turned_down, words_of
 from records import Transfer
 from texts import changed
 from transfers import GivenList
@@ -54,6 +55,9 @@ BAD = [
     ("1,0,1", "1,0,Rolling mill",
      'line 2: taker: "Rolling mill" is not the number of a consumer, from 0 in the order of the month'),
     ("1,0,1", "1,,1", 'line 2: giver: "" is not the number of a consumer, from 0 in the order of the month'),
+    ("10.5", "10\udcff", "line 3: is not text in UTF-8"),
+    (GOOD, "consumer,1\nimported,0\ndrawn,sent\n", 'line 1: is "consumer,1", not day,giver,taker,amount; it begins as '
+     "a record's text does, whose name ends in .complex.csv"),
 ]
 
 # Faults of a list's text, more than one in a line and more lines than are told of a CSV file of hours.
@@ -156,19 +160,56 @@ SMALL = EXAMPLES / "small.toml"
 # ------------------------------------------------------------------ text and bytes
 
 
+def check_same(kind, good, packed, same, folder):
+    """A text packs to its bytes, however it is written, and comes back from them."""
+    text, back, stdin = f"text{kind.text}", f"back{kind.text.upper()}", f"stdin{kind.text}"
+    for name, changes in {**same, "as it stands": []}.items():
+        (folder / text).write_bytes(changed(good, changes).encode())
+        done = sheet("pack", text, "-", folder=folder)
+        check(done.returncode == 0 and done.stdout == packed, f"pack: {text}: {name}", words_of(done))
+    for name in (f"a{kind.packed}", f"A{kind.packed.upper()}"):
+        done = sheet("pack", text, name, folder=folder)
+        again = sheet("unpack", name, back, "--force", folder=folder)
+        check((folder / back).read_text() == good, f"unpack: {name}", words_of(done) + words_of(again))
+    done = sheet("unpack", "-", stdin, folder=folder, stdin=packed)
+    check((folder / stdin).read_text() == good, f"unpack: standard input to {stdin}", words_of(done))
+
+
+def check_turned_down(kind, good, texts, contents, folder):
+    """Texts that cannot be packed, as changes of a good one, and bytes that cannot be unpacked; each with what is
+    said."""
+    text, packed, new = f"text{kind.text}", f"out{kind.packed}", f"new{kind.text}"
+    for old, other, message in texts:
+        (folder / text).write_bytes(changed(good, [(old, other)]).encode(errors="surrogateescape"))
+        turned_down("pack", folder, ["pack", text, packed], f"tools/sheet: {text}, {message}")
+    for content, message in contents:
+        (folder / f"bad{kind.packed}").write_bytes(content)
+        turned_down("unpack", folder, ["unpack", f"bad{kind.packed}", new],
+                    f"tools/sheet: bad{kind.packed}: cannot be written as text: {message}")
+    none = f"none{kind.packed}"
+    for words, message in (
+        (["pack", f"none{kind.text}", packed], f"none{kind.text}: cannot be read: No such file"),
+        (["unpack", none, new], f"{none}: cannot be read: No such file"),
+        (["explain", kind.option, none, SMALL], f"{none}: cannot be read: No such file"),
+    ):
+        turned_down(" ".join(map(str, words)), folder, words, message)
+
+
+def check_kept(kind, good, folder):
+    """Files that are there, or are read by the same command, are not written over."""
+    text, packed, kept = f"text{kind.text}", f"kept{kind.packed}", f"kept{kind.text}"
+    (folder / text).write_text(good)
+    (folder / kept).write_text(good)
+    (folder / "link").symlink_to(text)
+    sheet("pack", text, packed, folder=folder)
+    turned_down("pack", folder, ["pack", text, packed], f"{packed}: exists; --force writes over it")
+    turned_down("pack", folder, ["pack", text, "link", "--force"], "link: is read here")
+    turned_down("unpack", folder, ["unpack", packed, kept], f"{kept}: exists; --force writes over it")
+
+
 def test_texts(folder):
-    """A list's text packs to its bytes, however it is written, and comes back from them."""
-    text = folder / "list.csv"
-    for name, changes in {"as it stands": [], **SAME}.items():
-        text.write_bytes(changed(GOOD, changes).encode())
-        done = sheet("pack", "list.csv", "-", folder=folder)
-        check(done.returncode == 0 and done.stdout == GOOD_BYTES, f"pack: a list: {name}", words_of(done))
-    for name in ("a.list", "A.LIST"):
-        done = sheet("pack", "list.csv", name, folder=folder)
-        back = sheet("unpack", name, "back.CSV", "--force", folder=folder)
-        check((folder / "back.CSV").read_text() == GOOD, f"unpack: {name}", words_of(done) + words_of(back))
-    done = sheet("unpack", "-", "stdin.csv", folder=folder, stdin=GOOD_BYTES)
-    check((folder / "stdin.csv").read_text() == GOOD, "unpack: a list on standard input", words_of(done))
+    """Lists as texts and as bytes."""
+    check_same(LISTS, GOOD, GOOD_BYTES, SAME, folder)
     (folder / "empty.csv").write_text(GOOD.splitlines(keepends=True)[0])
     done = sheet("pack", "empty.csv", "-", folder=folder)
     check(done.stdout == bytes.fromhex("0000000501"), "pack: a list without entries", words_of(done))
@@ -180,31 +221,11 @@ def test_texts(folder):
 
 def test_bad(folder):
     """What cannot be packed or unpacked, with the file, the line or byte, and the reason."""
-    (folder / "kept.list").write_bytes(GOOD_BYTES)
-    for old, new, message in BAD:
-        (folder / "list.csv").write_bytes(changed(GOOD, [(old, new)]).encode())
-        turned_down("pack", folder, ["pack", "list.csv", "out.list"], f"tools/sheet: list.csv, {message}")
-    (folder / "list.csv").write_bytes(GOOD.encode().replace(b"10.5", b"10\xff"))
-    turned_down("pack", folder, ["pack", "list.csv", "out.list"], "list.csv, line 3: is not text in UTF-8")
+    check_turned_down(LISTS, GOOD, BAD, NO_LIST, folder)
     (folder / "list.csv").write_text(changed(GOOD, [("\n1,", "\nx,"), ("\n20,", "\ny,")]))
     turned_down("pack", folder, ["pack", "list.csv", "out.list"],
                 "(and 1 more; tools/sheet check --transfers LIST MONTH lists them all)")
-    for content, message in NO_LIST:
-        (folder / "bad.list").write_bytes(content)
-        turned_down("unpack", folder, ["unpack", "bad.list", "new.csv"],
-                    f"tools/sheet: bad.list: cannot be written as text: {message}")
-    for words, message in (
-        (["pack", "none.csv", "out.list"], "none.csv: cannot be read: No such file"),
-        (["unpack", "none.list", "new.csv"], "none.list: cannot be read: No such file"),
-        (["unpack", "kept.list", "new.toml"], "new.toml: is to be the text of a list, whose name ends in .csv"),
-        (["unpack", "kept.list", "list.csv"], "list.csv: exists; --force writes over it"),
-        (["explain", "--transfers", "none.list", SMALL], "none.list: cannot be read: No such file"),
-    ):
-        turned_down(" ".join(map(str, words)), folder, words, message)
-    (folder / "list.csv").write_text(GOOD)
-    (folder / "link").symlink_to("list.csv")
-    turned_down("pack", folder, ["pack", "list.csv", "kept.list"], "kept.list: exists; --force writes over it")
-    turned_down("pack", folder, ["pack", "list.csv", "link", "--force"], "link: is read here")
+    check_kept(LISTS, GOOD, folder)
 
 
 def test_faults(folder):
@@ -431,7 +452,8 @@ def drawn_transfer(rng, volumes):
     amount = rng.choice((0, most, rng.randint(0, max(most, 0))) if rng.random() < 0.95 else (most + 1, 2 ** 32 - 1))
     transfer = Transfer(day, giver, taker, max(amount, 0))
     if transfer.amount <= most:
-        transfers.apply(transfer, volumes)
+        volumes[giver] -= transfer.amount
+        volumes[taker] += transfer.amount
     return transfer
 
 
@@ -465,8 +487,8 @@ def draw():
 def first_of(case):
     """The first refusal that the aid finds, and the contract volumes after the list."""
     given = inputs.Given("sheet", case.sheet, names.NO_NAMES, "", [], False)
-    found, volumes = transfers.judged(given, [GivenList("list", case.list, False)])
-    return found[0] if found else None, volumes
+    found, after = changing.judged(given, [GivenList("list", case.list, False)])
+    return found[0] if found else None, [consumer.contract for consumer in after.consumers] if after else []
 
 
 def test_drawn(folder):
@@ -482,10 +504,11 @@ def test_drawn(folder):
         if not rival:
             after = [consumer.contract for consumer in records.Sheet.from_bytes(answer).consumers]
             check(volumes == after, f"show: drawn list {place}: the volumes after it")
-        if transfers.entries_known(case.list) and case.list[4] == records.LIST_VERSION:
+        given = GivenList("list", case.list, False)
+        if given.known() and case.list[4] == records.LIST_VERSION:
             text = folder / "list.csv"
-            text.write_bytes(transfers.text_files("list", case.list, str(text))[str(text)])
-            check(transfers.read_text(text) == case.list, f"pack after unpack: drawn list {place}")
+            text.write_text(given.as_text())
+            check(GivenList.read_text(text) == case.list, f"pack after unpack: drawn list {place}")
         else:
             check(rival, f"unpack: drawn list {place}: turned down, though the rival applies it")
     check(set(found) == {0, 2, 9, *refusals.TRIED_IN_LIST} and min(found.values()) >= 10,
@@ -497,7 +520,8 @@ def check_places(cases, answers, folder):
     """The field that explain names is the one: when it is repaired, what is named next stands behind it."""
     repaired = []
     for case, answer in zip(cases, answers):
-        if answer not in refusals.TRIED_IN_LIST or not transfers.entries_known(case.list) or case.sheet[13] < 2:
+        known = GivenList("list", case.list, False).known()
+        if answer not in refusals.TRIED_IN_LIST or not known or case.sheet[13] < 2:
             continue
         packed, last = bytearray(case.list), (0, 0)
         packed[4] = records.LIST_VERSION

@@ -8,8 +8,7 @@ import forms
 import monthtext
 import programs
 import records
-import transfers
-from checks import EXAMPLES, PROGRAM, ROOT, check, files_in, report, run, sheet, words_of
+from checks import CHANGES, EXAMPLES, PROGRAM, ROOT, check, files_in, report, run, sheet, words_of
 
 
 def test_examples(folder):
@@ -34,27 +33,38 @@ def test_examples(folder):
             test_result(name, source, listing, folder)
 
 
-def test_lists(folder):
-    """Each list's text packs to its bytes and comes back from them; explain on each has the rival's number."""
-    month, names = EXAMPLES / "month.sheet", sorted(path.stem for path in EXAMPLES.glob("*.list"))
-    check(names == ["refused-13", "refused-14", "refused-15", "transfers"], f"examples: the lists are {names}")
-    for name in names:
-        text, packed = EXAMPLES / f"{name}.csv", EXAMPLES / f"{name}.list"
-        done = sheet("pack", text, "-")
-        check(done.stdout == packed.read_bytes(), f"examples: {name}.csv packs to {name}.list", words_of(done))
-        done = sheet("unpack", packed, folder / f"{name}.csv")
-        check((folder / f"{name}.csv").read_text() == text.read_text(), f"examples: {name}.list unpacks to {name}.csv",
-              words_of(done))
-        listing = EXAMPLES / f"{name}.listing"
-        refused, printed = listing.is_file(), run(programs.RIVAL, "transfer", month, packed).stdout.decode()
-        wanted = (f"refusal {listing.read_text()[1:]}" if refused else
-                  f"bytes {month.stat().st_size} {(EXAMPLES / 'month-transferred.sheet').read_bytes().hex()}\n")
-        check(printed == wanted, f"examples: {name}.list by the rival", printed[:200])
-        for each in (text, packed):
-            done = sheet("explain", "--transfers", each, month)
-            answer = f"refusal {listing.read_text()[1:].strip()}:" if refused else "accepted\n"
-            check(done.returncode == 0 and done.stdout.decode().startswith(answer), f"explain: {each.name}",
-                  words_of(done))
+def test_changes(folder):
+    """Each text of a list or record packs to its bytes and comes back from them; explain on each has the rival's
+    number."""
+    month = EXAMPLES / "month.sheet"
+    for kind in CHANGES:
+        names = {path.name.removesuffix(kind.packed) for path in EXAMPLES.glob(f"*{kind.packed}")}
+        check(names == {kind.name, *(f"refused-{number}" for number in kind.refused)},
+              f"examples: for {kind.option} there are {names}")
+        for name in names:
+            text, packed = kind.files(name)
+            done = sheet("pack", text, "-")
+            check(done.stdout == packed.read_bytes(), f"examples: {text.name} packs to {packed.name}", words_of(done))
+            done = sheet("unpack", packed, folder / text.name)
+            check((folder / text.name).read_text() == text.read_text(), f"examples: {packed.name} unpacks to "
+                  f"{text.name}", words_of(done))
+            check_answer(kind, name, month)
+
+
+def check_answer(kind, name, month):
+    """What the rival and explain say of a list or record."""
+    refused = name != kind.name
+    number = name.removeprefix("refused-")
+    wanted = (f"refusal {number}\n" if refused else
+              f"bytes {month.stat().st_size} {(EXAMPLES / f'{kind.after}.sheet').read_bytes().hex()}\n")
+    text, packed = kind.files(name)
+    printed = run(programs.RIVAL, kind.command, month, packed).stdout.decode()
+    check(printed == wanted, f"examples: {packed.name} by the rival", printed[:200])
+    check(not refused or (EXAMPLES / f"{name}.listing").read_text() == f"N{number}\n", f"examples: {name}.listing")
+    for each in (text, packed):
+        done = sheet("explain", kind.option, each, month)
+        answer = f"refusal {number}:" if refused else "accepted\n"
+        check(done.returncode == 0 and done.stdout.decode().startswith(answer), f"explain: {each.name}", words_of(done))
 
 
 def test_proved(folder):
@@ -110,22 +120,25 @@ def test_readmes():
     readme = (ROOT / "tools" / "README.md").read_text()
     for kind, name in (("toml", "small.toml"), ("", "small.listing"), ("csv", "transfers.csv")):
         check(f"```{kind}\n{(EXAMPLES / name).read_text()}```\n" in readme, f"tools/README.md has {name}")
+    plant = (EXAMPLES / "plant.complex.csv").read_text().splitlines(keepends=True)
+    check(f"```csv\n{''.join(plant[:5])}```\n" in readme, "tools/README.md has the beginning of plant.complex.csv")
     keys = [field.key for field in (*records.PRODUCER_FIELDS, *records.ROW_FIELDS, *records.CONSUMER_FIELDS,
-                                    *transfers.ENTRY_FIELDS)]
+                                    *records.ENTRY_FIELDS, *records.COMPLEX_FIELDS[1:],
+                                    *records.COMPLEX_HOUR_FIELDS)]
     for key in (*keys, *monthtext.TOP_KEYS[:5], "name", "hours", monthtext.csv_head(records.HOUR_FIELDS),
                 *forms.COLUMNS):
         check(f"`{key}`" in readme, f"tools/README.md names {key}")
     usage = run(ROOT / "settle", "--help").stdout.decode()
-    for option in ("--table", "--csv", "--json", "--explain", "--transfers", "--sheet", "--result", "--force",
-                   "--strict", "--version"):
+    for option in ("--table", "--csv", "--json", "--explain", "--transfers", "--complex", "--sheet", "--result",
+                   "--force", "--strict", "--version"):
         check(option in usage and f"`{option}" in readme, f"{option} stands in tools/README.md and ./settle --help")
     for words in (readme, usage, sheet("--help").stdout.decode()):
         words = " ".join(words.split())
-        check("docs/RULES.md" in words and '"When a sheet is turned down", of a list under Requests, 1' in words,
-              "the rules' document is named, with its tables of numbers")
+        check("docs/RULES.md" in words and '"When a sheet is turned down", of a list under Requests, 1, of a record '
+              "under Requests, 3" in words, "the rules' document is named, with its tables of numbers")
     check(max(map(len, readme.split("\n"))) <= 118, "tools/README.md is wrapped")
     readme = (EXAMPLES / "README.md").read_text()
-    for path in (*EXAMPLES.glob("*.sheet"), *EXAMPLES.glob("*.list")):
+    for path in (path for ending in ("sheet", "list", "complex") for path in EXAMPLES.glob(f"*.{ending}")):
         check(f"`{path.stem}`" in readme, f"examples/README.md names {path.stem}")
 
 

@@ -5,9 +5,9 @@ import subprocess
 import time
 from hashlib import sha256
 
-from checks import EXAMPLES, PROGRAM, ROOT, TRANSFER_PROGRAM, check, files_in, run, sheet, words_of
+from checks import CHANGES, EXAMPLES, LISTS, PROGRAM, RECORDS, ROOT, check, files_in, run, sheet, words_of
 from texts import BACK, GOOD, changed
-from use import NOT_A_LIST, NOT_A_MONTH
+from use import NOT_A_LIST, NOT_A_MONTH, NOT_A_RECORD, RECORD_NO_LIST, RECORD_NO_MONTH
 
 TOOLS_USED = ("sh", "dirname", "readlink", "find", "cat", "mkdir", "mv", "rm", "cp", "mktemp", "chmod", "awk", "sleep",
               "sort", "xargs", "sha256sum", "cut", "git", "python3", "env", "wc")
@@ -35,8 +35,10 @@ laws: rules  # and more
 other: rules
 settle: rules laws io libc
 transfer_sheet: rules laws other io libc
+average_sheet: rules laws other io libc
 """
 EXAM = (EXAMPLES / "exam-126.sheet").read_bytes()
+MONTH = EXAMPLES / "month.sheet"
 LISTINGS = {path.stem: path.with_suffix(".listing").read_bytes() for path in EXAMPLES.glob("*.sheet")}
 
 
@@ -44,6 +46,7 @@ class House:
     """A small repository around ./settle, and two folders of commands: with the stand-in for rt, and without any rt."""
 
     def __init__(self, folder):
+        folder.mkdir(exist_ok=True)
         self.root, self.bin, self.bin_without_rt = folder / "house", folder / "bin", folder / "without"
         for commands in (self.bin, self.bin_without_rt):
             commands.mkdir()
@@ -52,7 +55,7 @@ class House:
         (self.bin / "rt").write_text(STAND_IN)
         (self.bin / "rt").chmod(0o755)
         self.beside_rt("version").write_text("kit 1\n")
-        for program in (PROGRAM, TRANSFER_PROGRAM):
+        for program in (PROGRAM, *(kind.program for kind in CHANGES)):
             shutil.copy(program, self.beside_rt(program.name))
         self.source = self.root / "crates" / "rules" / "src"
         self.source.mkdir(parents=True)
@@ -128,7 +131,7 @@ def test_building(folder):
     house.settles("another version of rt", 1, b"up to date")
     (house.root / "target" / "bin" / "settle").unlink()
     house.settles("a program that is gone", 1, b"some minutes")
-    check(house.checks("transfer_sheet") == 0, "settle: without a list, only settle is built")
+    check(not any(house.checks(kind.program.name) for kind in CHANGES), "settle: without changes, only settle is built")
     house.settles("at the end", 0)
     done = run(house.root / "settle", stdin=EXAM, path=house.bin_without_rt)
     check(done.stdout == LISTINGS["exam-126"] and not done.stderr, "settle: an up-to-date program needs no rt",
@@ -158,9 +161,7 @@ def test_copied(folder):
 def test_at_once(folder):
     """Two first runs at once: each settles, and neither has a fault to tell. With flock, one of them waits."""
     for flock in (False, True) if shutil.which("flock") else (False,):
-        place = folder / str(flock)
-        place.mkdir()
-        house = House(place)
+        house = House(folder / str(flock))
         house.beside_rt("slow").write_text("")
         if flock:
             (house.bin / "flock").symlink_to(shutil.which("flock"))
@@ -181,7 +182,8 @@ def test_at_once(folder):
 def test_output(folder):
     """What cannot be written is told, with status 2; a pipe that nobody reads any more needs no words."""
     house = House(folder)
-    house.settle("--transfers", "examples/transfers.list", "examples/month.sheet")
+    for kind in CHANGES:
+        house.settle(kind.option, kind.files()[1], "examples/month.sheet")
     env = dict(os.environ, PATH=f"{house.bin}:/usr/bin:/bin")
 
     def shell(line):
@@ -189,7 +191,8 @@ def test_output(folder):
     for words in ("examples/small.sheet", "examples/small.sheet examples/refused-9.sheet", "- <examples/small.sheet",
                   "examples/small.toml", "--table examples/small.sheet", "--csv examples/small.toml",
                   "--json examples/small.toml", "--transfers examples/transfers.list examples/month.sheet",
-                  "--transfers examples/refused-15.csv examples/month.sheet", "--help", "--version"):
+                  "--transfers examples/refused-15.csv examples/month.sheet",
+                  "--complex examples/plant.complex examples/month.sheet", "--help", "--version"):
         for place in (">/dev/full", ">&-"):
             done = shell(f"./settle {words} {place}")
             said = done.stderr.decode()
@@ -259,54 +262,68 @@ def test_months(folder):
 
 
 def test_transfers_built(folder):
-    """With a list both programs are proved and built, each when it has to be."""
-    house = House(folder)
-    words = ["--transfers", "examples/transfers.list", "examples/month.sheet"]
+    check_built(LISTS, folder)
+    bad = folder / "bad.csv"
+    bad.write_text("day,giver,taker,amount\n1,0,1,1.05\n")
+    house = House(folder / "bad")
+    house.fails("a bad list is told before a program is built", 'bad.csv, line 2: amount: "1.05" has more than one '
+                "decimal", ["--transfers", bad, EXAMPLES / "month.sheet"])
+    bad = folder / "bad.complex.csv"
+    bad.write_text("consumer,x\nimported,0\ndrawn,sent\n")
+    house.fails("a bad record is told before a program is built", 'bad.complex.csv, line 1: consumer: "x" is not the '
+                "number of a consumer", ["--complex", bad, EXAMPLES / "month.sheet"])
 
-    def built(name, settle, transfer_sheet, said):
-        before = house.checks(), house.checks("transfer_sheet")
+
+def test_complexes_built(folder):
+    check_built(RECORDS, folder)
+    house = House(folder / "both")
+    words = ["--transfers", "examples/transfers.list", "--complex", "examples/plant.complex", "examples/month.sheet"]
+    house.settle(*words)
+    found = [house.checks(name) for name in ("settle", "transfer_sheet", "average_sheet")]
+    check(found == [1, 1, 1], "settle --transfers --complex: every program is built", str(found))
+
+
+def check_built(kind, folder):
+    """With a list or record both programs are proved and built, each when it has to be."""
+    house, program, listing = House(folder / "built"), kind.program.name, LISTINGS[kind.after]
+    words = [kind.option, kind.files()[1], "examples/month.sheet"]
+
+    def built(name, settle, other, said):
+        before = house.checks(), house.checks(program)
         done = house.settle(*words)
-        check(done.stdout == LISTINGS["month-transferred"] and done.stderr.decode() == said,
-              f"settle --transfers: {name}", words_of(done))
-        found = house.checks() - before[0], house.checks("transfer_sheet") - before[1]
-        check(found == (settle, transfer_sheet), f"settle --transfers: {name}: checks by rt", str(found))
+        check(done.stdout == listing and done.stderr.decode() == said, f"settle {kind.option}: {name}", words_of(done))
+        found = house.checks() - before[0], house.checks(program) - before[1]
+        check(found == (settle, other), f"settle {kind.option}: {name}: checks by rt", str(found))
     house.fails("no rt", "settle: the program settle is to be proved", words, commands=house.bin_without_rt)
     house.settle(stdin=EXAM)
-    house.fails("no rt", "the program transfer_sheet is to be proved", words, commands=house.bin_without_rt)
+    house.fails("no rt", f"the program {program} is to be proved", words, commands=house.bin_without_rt)
     house.beside_rt("fails").write_text("")
-    house.fails("rt fails", "the program transfer_sheet is not proved, so nothing is settled; 'rt check "
-                "transfer_sheet' says why\n", words)
+    house.fails("rt fails", f"the program {program} is not proved, so nothing is settled; 'rt check {program}' says "
+                "why\n", words)
     house.beside_rt("fails").unlink()
     lines = "rt: rules proved (3 s), 2 of {0}\nrt: {1} proved (4 s), 3 of {0}\nrt: ok, 3 crates proved\n"
-    built("the first use", 0, 1, "settle: the program transfer_sheet is proved and built first, which takes some "
-          "minutes\n" + lines.format(4, "transfer_sheet"))
+    first = f"settle: the program {program} is proved and built first, which takes some minutes\n"
+    built("the first use", 0, 1, first + lines.format(4, program))
     built("the second use", 0, 0, "")
     (house.source / "lib.rt").write_text("changed")
     built("a changed source", 1, 1, "".join(
         f"settle: rt looks whether the program {name} is up to date\n" + lines.format(count, name)
-        for name, count in (("settle", 3), ("transfer_sheet", 4))))
-    (house.root / "target/bin/transfer_sheet").unlink()
-    built("a program that is gone", 0, 1, "settle: the program transfer_sheet is proved and built first, which takes "
-          "some minutes\n" + lines.format(4, "transfer_sheet"))
-    left = sorted(path.name for path in (house.root / "target").iterdir() if path.is_file())
-    check([name for name in left if "lock" not in name] == ["settle.checked", "transfer_sheet.checked"],
-          "settle --transfers: what is left", str(left))
+        for name, count in (("settle", 3), (program, 4))))
+    (house.root / "target/bin" / program).unlink()
+    built("a program that is gone", 0, 1, first + lines.format(4, program))
+    left = {path.name for path in (house.root / "target").iterdir() if path.is_file() and "lock" not in path.name}
+    check(left == {"settle.checked", f"{program}.checked"}, f"settle {kind.option}: what is left", str(left))
     copy = folder / "a copy"
     shutil.copytree(house.root, copy, symlinks=True)
     done = run(copy / "settle", *words, path=house.bin_without_rt, folder=house.root)
-    check(done.stdout == LISTINGS["month-transferred"] and done.stderr.decode() == "".join(
+    check(done.stdout == listing and done.stderr.decode() == "".join(
         f"settle: rt, the Rattle toolchain, is not on the PATH, so nobody looked whether the program {name} is "
-        "current; the one there is used\n" for name in ("settle", "transfer_sheet")), "settle --transfers: a copied tree",
+        "current; the one there is used\n" for name in ("settle", program)), f"settle {kind.option}: a copied tree",
         words_of(done))
-    bad = folder / "bad.csv"
-    bad.write_text("day,giver,taker,amount\n1,0,1,1.05\n")
-    (house.source / "lib.rt").write_text("changed again")
-    house.fails("a bad list is told before a program is built", 'bad.csv, line 2: amount: "1.05" has more than one '
-                "decimal", ["--transfers", bad, EXAMPLES / "month.sheet"])
 
 
 def test_kinds(folder):
-    """A list in a month's place, and a month in a list's: told in tools/report's words, without Python or a program."""
+    """Months, lists and records in one another's places: told in tools/report's words, without Python or a program."""
     house = House(folder)
     (house.bin / "python3").unlink()
     month = "examples/month.sheet"
@@ -319,6 +336,14 @@ def test_kinds(folder):
         (["--transfers", "examples/month.toml", "examples/transfers.csv"], f"examples/month.toml: {NOT_A_LIST}"),
         ([month, "--transfers", month], f"{month}: {NOT_A_LIST}"),
         (["--transfers=-x.TOML"], f"./-x.TOML: {NOT_A_LIST}"),
+        (["examples/plant.complex"], f"examples/plant.complex: {RECORD_NO_MONTH}"),
+        (["--table", "none.Complex.CSV"], f"none.Complex.CSV: {RECORD_NO_MONTH}"),
+        (["--complex", "examples/plant.complex", "--", "-x.complex"], f"./-x.complex: {RECORD_NO_MONTH}"),
+        (["--transfers", "examples/plant.complex.csv", month], f"examples/plant.complex.csv: {RECORD_NO_LIST}"),
+        (["--transfers", "a.COMPLEX", month], f"a.COMPLEX: {RECORD_NO_LIST}"),
+        (["--complex", "examples/transfers.csv", month], f"examples/transfers.csv: is a list {NOT_A_RECORD}"),
+        (["--complex=a.List", month], f"a.List: is a list {NOT_A_RECORD}"),
+        (["--complex", month, "examples/plant.complex"], f"{month}: is a month {NOT_A_RECORD}"),
     ):
         done = house.settle(*words)
         check((done.returncode, done.stdout, done.stderr.decode()) == (2, b"", f"settle: {said}\n"),
@@ -326,55 +351,51 @@ def test_kinds(folder):
     check(house.checks() == 0, "settle: nothing is built for a name in the wrong place")
 
 
+# Of refused-13 and refused-16: the field that is wrong first, in bytes and as text.
+FIRST_FIELDS = {
+    "--transfers": ("byte 21: entry 2, taker, 32 (the sheet has consumers 0 to 31)",
+                    "line 4: entry 2, taker, 32 (the sheet has consumers 0 to 31)"),
+    "--complex": ("byte 0: length, 5769 (the month asks for 5961)",
+                  "line 723: here the hours end, 720 of them (the month has 744)"),
+}
+
+
 def test_transfers(folder):
-    """Lists on the command line: names, several, pipes, refusals, forms, what needs Python, wrong use."""
-    house, elsewhere = House(folder), folder / "else where"
+    check_change(LISTS, folder, check_order)
+
+
+def test_complexes(folder):
+    check_change(RECORDS, folder, check_both)
+
+
+def check_change(kind, folder, check_several):
+    """Lists or records on the command line: names, several, pipes, refusals, forms, what needs Python, wrong use."""
+    house = House(folder / "built")
+    done = house.settle(kind.option, kind.files()[1], MONTH)
+    check(done.stdout == LISTINGS[kind.after], f"settle {kind.option}", words_of(done))
+    check_names(kind, house, folder)
+    check_several(house, folder)
+    check_refused(kind, house)
+    check_written(kind, house, folder)
+    check_wrong_files(kind, house)
+    check_other_output(kind, house)
+
+
+def check_names(kind, house, folder):
+    """Names of lists or records, from another folder, and pipes."""
+    elsewhere, wanted, (text, packed) = folder / "else where", LISTINGS[kind.after], kind.files()
     elsewhere.mkdir()
-    house.settle("--transfers", "examples/transfers.list", "examples/month.sheet")
-    for suffix in ("list", "csv", "CSV"):
-        (elsewhere / f"-a list.{suffix}").write_bytes((EXAMPLES / f"transfers.{suffix.lower()}").read_bytes())
-    month, wanted = EXAMPLES / "month.sheet", LISTINGS["month-transferred"]
-    for words in (["--transfers", "-a list.list", month], ["--transfers=-a list.list", month],
-                  [month, "--transfers", "-a list.csv"], ["--transfers=-a list.CSV", "--", month],
-                  ["--transfers", "-a list.list", "-"], ["--transfers", "-a list.csv"],
-                  ["--transfers", EXAMPLES / "transfers.list", EXAMPLES / "month.toml"]):
-        done = house.settle(*words, folder=elsewhere, stdin=month.read_bytes())
+    bytes_name, text_name, upper_name = f"-a b{kind.packed}", f"-a b{kind.text}", f"-a b{kind.text.upper()}"
+    for name, path in ((bytes_name, packed), (text_name, text), (upper_name, text)):
+        shutil.copy(path, elsewhere / name)
+    for words in ([kind.option, bytes_name, MONTH], [f"{kind.option}={bytes_name}", MONTH],
+                  [MONTH, kind.option, text_name], [f"{kind.option}={upper_name}", "--", MONTH],
+                  [kind.option, bytes_name, "-"], [kind.option, text_name],
+                  [kind.option, packed, EXAMPLES / "month.toml"]):
+        done = house.settle(*words, folder=elsewhere, stdin=MONTH.read_bytes())
         check(done.returncode == 0 and done.stdout == wanted and not done.stderr, f"settle {words}", words_of(done))
-    done = house.settle("--transfers", "/dev/stdin", month, stdin=(EXAMPLES / "transfers.list").read_bytes())
-    check(done.stdout == wanted and not done.stderr, "settle --transfers: a list from a pipe", words_of(done))
-    check_order(house, folder)
-    for name in ("refused-13", "refused-14", "refused-15"):
-        listing = (EXAMPLES / f"{name}.listing").read_bytes()
-        for words, status in (([], 0), (["--strict"], 1), (["--transfers", f"examples/{name}.csv"], 0)):
-            done = house.settle(*words, "--transfers", f"examples/{name}.list", month)
-            check((done.returncode, done.stdout) == (status, listing) and not done.stderr, f"settle {words} {name}",
-                  words_of(done))
-    for suffix, where in (("list", "byte 21"), ("csv", "line 4")):
-        done = house.settle("--explain", "--transfers", f"refused-13.{suffix}", "month.sheet", folder=EXAMPLES)
-        line = f"month.sheet: refused-13.{suffix}, {where}: entry 2, taker, 32 (the sheet has consumers 0 to 31)"
-        check(done.stdout == b"N13\n" and done.stderr.decode().splitlines()[1] == line,
-              f"settle --explain --transfers: {suffix}", words_of(done))
-    done = house.settle("--sheet", "-new", "--result=new.bin", "--transfers", "examples/transfers.list", month)
-    check(done.stdout == wanted and (house.root / "-new").read_bytes() == (EXAMPLES / "month-transferred.sheet")
-          .read_bytes() and (house.root / "new.bin").is_file(), "settle --sheet --result", words_of(done))
-    room = folder / "room"
-    room.mkdir()
-    for suffix in ("list", "csv"):
-        words = ["./settle", "--transfers", f"examples/transfers.{suffix}", "-"]
-        done = run("env", f"TMPDIR={room}", *words, folder=house.root, path=house.bin, stdin=month.read_bytes())
-        check(done.stdout == wanted and not list(room.iterdir()), f"settle {words}: nothing is left", words_of(done))
-    words = ["./settle", "--transfers", "examples/transfers.list", month]
-    done = run("env", "TMPDIR=/none", *words, folder=house.root, path=house.bin)
-    check(done.returncode == 2 and done.stderr.endswith(b"settle: cannot make a temporary folder\n"),
-          "settle --transfers: no room", words_of(done))
-    done = house.settle("--table", "--transfers", "examples/transfers.csv", "examples/month.toml")
-    check(done.stdout.startswith(b"examples/month.toml: December 2021, after examples/transfers.csv\n"),
-          "settle --table --transfers", words_of(done))
-    for name, listing in LISTINGS.items():
-        if name.startswith("refused-"):
-            done = house.settle("--transfers", "examples/refused-15.list", f"examples/{name}.sheet")
-            check(done.stdout == listing and not done.stderr, f"settle --transfers: {name}", words_of(done))
-    check_wrong_lists(house, month)
+    done = house.settle(kind.option, "/dev/stdin", MONTH, stdin=packed.read_bytes())
+    check(done.stdout == wanted and not done.stderr, f"settle {kind.option}: from a pipe", words_of(done))
 
 
 def check_order(house, folder):
@@ -384,48 +405,107 @@ def check_order(house, folder):
     for suffix in ("list", "csv"):
         there, back = EXAMPLES / f"transfers.{suffix}", folder / f"back.{suffix}"
         for lists, wanted in (((there, back), LISTINGS["month"]), ((back, there), b"N15\n")):
-            words = [word for each in lists for word in ("--transfers", each)]
-            done = house.settle(*words, EXAMPLES / "month.sheet")
+            done = house.settle(*LISTS.words(*lists), MONTH)
             check(done.returncode == 0 and done.stdout == wanted and not done.stderr,
                   f"settle --transfers: {lists[0].name}, then {lists[1].name}", words_of(done))
 
 
-def check_wrong_lists(house, month):
-    """Wrong use of --transfers and --sheet; a list's bytes need no Python."""
-    packed = EXAMPLES / "transfers.list"
-    (house.root / "long.list").write_bytes(bytes(65_537))
-    (house.root / "longest.list").write_bytes(bytes(65_536))
-    done = house.settle("--transfers", "longest.list", month)
-    check(done.stdout == b"N13\n", "settle --transfers: 65536 bytes are handed over", words_of(done))
+def check_both(house, folder):
+    """Lists and records are applied in the order given, and the first that is refused is told."""
+    (folder / "back.csv").write_text(BACK)
+    list_text, record = LISTS.files()[0], RECORDS.files()[1]
+    late, long = EXAMPLES / "refused-14.list", EXAMPLES / "refused-16.complex"
+    for words, wanted in (
+        ([*LISTS.words(list_text), *RECORDS.words(record), *LISTS.words(folder / "back.csv")],
+         LISTINGS["month-averaged"]),
+        ([*LISTS.words(late), *RECORDS.words(long)], b"N14\n"), ([*RECORDS.words(long), *LISTS.words(late)], b"N16\n"),
+        ([*RECORDS.words(record, record), *LISTS.words(late)], b"N14\n"),
+    ):
+        done = house.settle(*words, MONTH)
+        check(done.returncode == 0 and done.stdout == wanted, f"settle {words}", words_of(done))
+
+
+def check_refused(kind, house):
+    """The listings of refusals, with statuses; which field it is; a refused sheet comes first."""
+    for number in kind.refused:
+        (text, packed), listing = kind.files(f"refused-{number}"), b"N%d\n" % number
+        for words, status in (([], 0), (["--strict"], 1), ([kind.option, text], 0)):
+            done = house.settle(*words, kind.option, packed, MONTH)
+            check((done.returncode, done.stdout) == (status, listing) and not done.stderr,
+                  f"settle {words} {packed.name}", words_of(done))
+    number = kind.refused[0]
+    for suffix, words in zip((kind.packed, kind.text), FIRST_FIELDS[kind.option]):
+        name = f"refused-{number}{suffix}"
+        done = house.settle("--explain", kind.option, name, "month.sheet", folder=EXAMPLES)
+        check(done.stdout == b"N%d\n" % number and done.stderr.decode().splitlines()[1] ==
+              f"month.sheet: {name}, {words}", f"settle --explain {kind.option}: {name}", words_of(done))
+    for name, listing in LISTINGS.items():
+        if name.startswith("refused-"):
+            done = house.settle(kind.option, kind.files(f"refused-{kind.refused[-1]}")[1], f"examples/{name}.sheet")
+            check(done.stdout == listing and not done.stderr, f"settle {kind.option}: {name}", words_of(done))
+
+
+def check_written(kind, house, folder):
+    """The changed sheet and the result; temporary files; a form."""
+    wanted, (text, packed) = LISTINGS[kind.after], kind.files()
+    done = house.settle("--sheet", "-new", "--result=new.bin", kind.option, packed, MONTH)
+    after = (EXAMPLES / f"{kind.after}.sheet").read_bytes()
+    check(done.stdout == wanted and (house.root / "-new").read_bytes() == after
+          and (house.root / "new.bin").is_file(), f"settle --sheet --result {kind.option}", words_of(done))
+    room = folder / "room"
+    room.mkdir()
+    for path in (text, packed):
+        words = ["./settle", kind.option, path, "-"]
+        done = run("env", f"TMPDIR={room}", *words, folder=house.root, path=house.bin, stdin=MONTH.read_bytes())
+        check(done.stdout == wanted and not list(room.iterdir()), f"settle {words}: nothing is left", words_of(done))
+    done = run("env", "TMPDIR=/none", "./settle", kind.option, packed, MONTH, folder=house.root, path=house.bin)
+    check(done.returncode == 2 and done.stderr.endswith(b"settle: cannot make a temporary folder\n"),
+          f"settle {kind.option}: no room", words_of(done))
+    done = house.settle("--table", kind.option, text, "examples/month.toml")
+    check(done.stdout.decode().startswith(f"examples/month.toml: December 2021, after {text}\n"),
+          f"settle --table {kind.option}", words_of(done))
+
+
+def check_wrong_files(kind, house):
+    """Wrong use of --transfers or --complex, and of --sheet; bytes need no Python."""
+    packed, option, long = kind.files()[1], kind.option, f"long{kind.packed}"
+    (house.root / long).write_bytes(bytes(65_537))
+    (house.root / "longest").write_bytes(bytes(65_536))
+    done = house.settle(option, "longest", MONTH)
+    check(done.stdout == b"N%d\n" % kind.refused[0], f"settle {option}: 65536 bytes are handed over", words_of(done))
     for words, said in (
-        (["--transfers"], "--transfers wants the name of a file"), (["--transfers="], "--transfers wants the name"),
-        (["--transfers", "-", month], "--transfers wants the name of a file"),
+        ([option], f"{option} wants the name of a file"), ([f"{option}="], f"{option} wants the name"),
+        ([option, "-", MONTH], f"{option} wants the name of a file"),
         (["--sheet"], "--sheet wants the name of a file"), (["--sheet", "-"], "--sheet wants the name of a file"),
-        (["--sheet", "new", month], "--sheet goes with --transfers"),
-        (["--sheet", "-new", "--transfers", packed, month], "-new: exists; --force writes over it"),
-        (["--transfers", packed, month, month], "--transfers goes with one month"),
-        (["--transfers", "none.list", month], "cannot read none.list"), (["--transfers", "/", month], "cannot read /"),
-        (["--transfers", "long.list", month], "long.list: has 65537 bytes, and the program takes at most 65536"),
-        (["--csv", "--transfers", "long.list", month], "long.list: has 65537 bytes, and the program takes at most"),
+        (["--sheet", "new", MONTH], "--sheet goes with --transfers or --complex"),
+        (["--sheet", "-new", option, packed, MONTH], "-new: exists; --force writes over it"),
+        ([option, packed, MONTH, MONTH], f"{option} goes with one month"),
+        ([option, "none", MONTH], "cannot read none"), ([option, "/", MONTH], "cannot read /"),
+        ([option, long, MONTH], f"{long}: has 65537 bytes, and the program takes at most 65536"),
+        (["--csv", option, long, MONTH], f"{long}: has 65537 bytes, and the program takes at most"),
     ):
         done = house.settle(*words)
         check(done.returncode == 2 and not done.stdout and done.stderr.decode().startswith(f"settle: {said}"),
               f"wrong use: {words}", words_of(done))
     (house.bin / "python3").unlink()
-    done = house.settle("--strict", "--transfers", packed, "--transfers", packed, month)
-    check(done.returncode == 0 and done.stdout and not done.stderr, "settle --transfers: no Python", words_of(done))
-    for words in (["--transfers", EXAMPLES / "transfers.csv"], ["--sheet", "x", "--transfers", packed],
-                  ["--explain", "--transfers", packed]):
-        house.fails(f"no Python: {words[0]}", "need python3, which is not on the PATH", [*words, month])
+    done = house.settle("--strict", option, packed, option, packed, MONTH)
+    check(done.returncode == 0 and done.stdout and not done.stderr, f"settle {option}: no Python", words_of(done))
+    for words in ([option, kind.files()[0]], ["--sheet", "x", option, packed], ["--explain", option, packed]):
+        house.fails(f"no Python: {words[0]}", "need python3, which is not on the PATH", [*words, MONTH])
+
+
+def check_other_output(kind, house):
+    """A program that writes neither a sheet nor a refusal."""
+    packed, program = kind.files()[1], house.root / "target/bin" / kind.program.name
     for said in ("", "N", "N1345", "\\0", "x" * 54_633, "x" * 54_635):
-        (house.root / "target/bin/transfer_sheet").write_text(f"#!/bin/sh\ncat >/dev/null\nprintf '{said}'\n")
-        done = house.settle("--transfers", packed, month)
+        program.write_text(f"#!/bin/sh\ncat >/dev/null\nprintf '{said}'\n")
+        done = house.settle(kind.option, packed, MONTH)
         check(done.returncode == 2 and not done.stdout and b"what it wrote is neither a sheet nor a refusal"
-              in done.stderr, f"settle --transfers: a program that writes {said[:5]}", words_of(done))
-    (house.root / "target/bin/transfer_sheet").write_text("#!/bin/sh\nexit 1\n")
-    done = house.settle("--transfers", packed, month)
-    check(done.returncode == 2 and b"settle: the program failed on " in done.stderr, "settle --transfers: a failure",
-          words_of(done))
+              in done.stderr, f"settle {kind.option}: a program that writes {said[:5]}", words_of(done))
+    program.write_text("#!/bin/sh\nexit 1\n")
+    done = house.settle(kind.option, packed, MONTH)
+    check(done.returncode == 2 and b"settle: the program failed on " in done.stderr,
+          f"settle {kind.option}: a failure", words_of(done))
 
 
 def test_version(folder):

@@ -1,4 +1,6 @@
-"""tools/report with lists of transfers, as ./settle starts it: listings, forms, the changed sheet, order, statuses."""
+"""tools/report with lists of transfers, as ./settle starts it: listings, forms, the changed sheet, order, statuses.
+
+What is the same of records of complexes is tested of both."""
 import csv
 import io
 import json
@@ -7,26 +9,17 @@ import tempfile
 import programs
 import records
 import transfers
-from checks import EXAMPLES, TRANSFER_PROGRAM, check, files_in, report, run, turned_down, words_of
+from checks import CHANGES, EXAMPLES, LISTS, ROOT, check, files_in, report, run, turned_down, words_of
 from transfers import Transfer
 
-STORED = EXAMPLES.parent / "crates" / "vectors" / "data" / "transfers"
-STORED_LISTS = 21    # docs/EVIDENCE.md
+# Stored cases, in crates/vectors/data, and how many there are (docs/EVIDENCE.md).
+STORED = ((LISTS, "transfers", 21),)
 MONTHS = EXAMPLES / "month.toml", EXAMPLES / "month.sheet"
 CHANGED = (EXAMPLES / "month-transferred.sheet").read_bytes()
 LISTING = (EXAMPLES / "month-transferred.listing").read_text()
-REFUSED = (13, 14, 15)
 # The consumers of the month whose contract volumes the list changes, in MW.
 AFTER = {8: "19.5", 10: "57.0", 19: "17.5", 29: "4.0", 31: "55.0"}
 STAND_IN = "#!/bin/sh\ncat >/dev/null\ncat \"$0.writes\"\n"
-
-
-def lists_of(name):
-    return EXAMPLES / f"{name}.csv", EXAMPLES / f"{name}.list"
-
-
-def with_lists(*lists):
-    return [word for each in lists for word in ("--transfers", each)]
 
 
 def list_file(folder, name, *entries):
@@ -37,51 +30,53 @@ def contracts(content):
     return [consumer.contract for consumer in records.Sheet.from_bytes(content).consumers]
 
 
-def written(packed, content):
-    """What the program writes that applies lists."""
-    return run("sh", "-c", 'exec "$0" 3<"$1"', TRANSFER_PROGRAM, packed, stdin=content).stdout
+def written(kind, packed, content):
+    """What the program writes that applies lists or records."""
+    return run("sh", "-c", 'exec "$0" 3<"$1"', kind.program, packed, stdin=content).stdout
 
 
 def test_stored(folder):
-    """The program that applies lists, alone, on the stored cases."""
-    stored = list(programs.stored_lists(STORED.read_bytes()))
-    check(len(stored) == STORED_LISTS, f"transfer_sheet: {len(stored)} stored lists")
-    for count, (sheet, packed, answer) in enumerate(stored):
-        (folder / "list").write_bytes(packed)
-        wanted = b"N%d\n" % answer if isinstance(answer, int) else answer
-        check(written(folder / "list", sheet) == wanted, f"transfer_sheet: stored list {count}")
+    """The programs that apply lists and records, alone, on the stored cases."""
+    for kind, name, count in STORED:
+        stored = list(programs.stored_lists((ROOT / "crates" / "vectors" / "data" / name).read_bytes()))
+        check(len(stored) == count, f"{kind.program.name}: {len(stored)} stored cases")
+        for place, (sheet, packed, answer) in enumerate(stored):
+            (folder / "packed").write_bytes(packed)
+            wanted = b"N%d\n" % answer if isinstance(answer, int) else answer
+            check(written(kind, folder / "packed", sheet) == wanted, f"{kind.program.name}: stored case {place}")
 
 
-def test_program():
-    """The same with every list of the examples."""
+def test_programs():
+    """The programs that apply lists and records, alone, with all of the examples."""
     month = MONTHS[1].read_bytes()
-    check(written(EXAMPLES / "transfers.list", month) == CHANGED, "transfer_sheet: the sheet afterwards")
-    for number in REFUSED:
-        listing = (EXAMPLES / f"refused-{number}.listing").read_bytes()
-        check(written(EXAMPLES / f"refused-{number}.list", month) == listing, f"transfer_sheet: refused-{number}.list")
-    for path in EXAMPLES.glob("refused-*.sheet"):
-        listing = path.with_suffix(".listing").read_bytes()
-        check(written(EXAMPLES / "refused-13.list", path.read_bytes()) == listing, f"transfer_sheet: {path.name}")
+    for kind in CHANGES:
+        name, after = kind.program.name, (EXAMPLES / f"{kind.after}.sheet").read_bytes()
+        check(written(kind, kind.files()[1], month) == after, f"{name}: the sheet afterwards")
+        refused = [kind.files(f"refused-{number}")[1] for number in kind.refused]
+        for packed, number in zip(refused, kind.refused):
+            check(written(kind, packed, month) == b"N%d\n" % number, f"{name}: {packed.name}")
+        for path in EXAMPLES.glob("refused-*.sheet"):
+            listing = path.with_suffix(".listing").read_bytes()
+            check(written(kind, refused[0], path.read_bytes()) == listing, f"{name}: {path.name}")
 
 
 def test_listings():
-    """Texts and bytes of lists, with texts and sheets of the month, print the stored listings."""
-    for month in MONTHS:
-        for each in lists_of("transfers"):
-            done = report("--transfers", each, month)
-            check(done.returncode == 0 and done.stdout.decode() == LISTING and not done.stderr,
-                  f"report --transfers {each.name} {month.name}", words_of(done))
-        for number in REFUSED:
-            for each in lists_of(f"refused-{number}"):
-                done = report("--transfers", each, month)
-                check((done.returncode, done.stdout) == (0, b"N%d\n" % number) and not done.stderr,
-                      f"report --transfers {each.name} {month.name}", words_of(done))
-    done = report("--transfers", EXAMPLES / "transfers.csv", "-", stdin=MONTHS[1].read_bytes())
-    check(done.stdout.decode() == LISTING, "report --transfers: standard input", words_of(done))
-    for path in EXAMPLES.glob("refused-*.sheet"):
-        done = report("--transfers", EXAMPLES / "refused-13.list", path)
-        check(done.stdout == path.with_suffix(".listing").read_bytes(), f"report --transfers: {path.name}",
-              words_of(done))
+    """Texts and bytes of lists and records, with texts and sheets of the month, print the stored listings."""
+    for kind in CHANGES:
+        listing = (EXAMPLES / f"{kind.after}.listing").read_bytes()
+        answers = {path: listing for path in kind.files()}
+        answers |= {path: b"N%d\n" % number for number in kind.refused for path in kind.files(f"refused-{number}")}
+        for month in MONTHS:
+            for path, answer in answers.items():
+                done = report(kind.option, path, month)
+                check((done.returncode, done.stdout) == (0, answer) and not done.stderr,
+                      f"report {kind.option} {path.name} {month.name}", words_of(done))
+        done = report(kind.option, kind.files()[0], "-", stdin=MONTHS[1].read_bytes())
+        check(done.stdout == listing, f"report {kind.option}: standard input", words_of(done))
+        for path in EXAMPLES.glob("refused-*.sheet"):
+            done = report(kind.option, kind.files(f"refused-{kind.refused[0]}")[1], path)
+            check(done.stdout == path.with_suffix(".listing").read_bytes(), f"report {kind.option}: {path.name}",
+                  words_of(done))
 
 
 def test_forms():
@@ -93,7 +88,7 @@ def test_forms():
     for number, volume in AFTER.items():
         check(any(line.split()[:2] == [str(number), volume] for line in lines), f"--table: consumer {number}",
               words_of(done))
-    done = report("--form", "table", *with_lists("transfers.csv", "transfers.list"), "month.sheet", folder=EXAMPLES)
+    done = report("--form", "table", *LISTS.words("transfers.csv", "transfers.list"), "month.sheet", folder=EXAMPLES)
     check(done.stdout.startswith(b"month.sheet: 31 days from a Wednesday, after transfers.csv, after transfers.list\n"),
           "--table: two lists", words_of(done))
     month, = json.loads(report("--form", "json", *words, folder=EXAMPLES).stdout)
@@ -116,7 +111,7 @@ def test_refused():
     check(done.stdout.decode() == f"month.sheet: refused by 15: {rule}\n{field}\n", "--table: refused", words_of(done))
     month, = json.loads(report("--form", "json", *words, folder=EXAMPLES).stdout)
     wanted = {"number": 15, "list": "refused-15.csv", "words": rule, "byte": 8, "field": field}
-    check(month["refusal"] == wanted, "--json: refused", str(month))
+    check(month["refusal"] == {**wanted, "complex": None}, "--json: refused", str(month))
     row, = csv.DictReader(io.StringIO(report("--form", "csv", *words, folder=EXAMPLES).stdout.decode()))
     found = [row[key] for key in ("record", "refusal", "list", "words", "byte", "field")]
     check(found == ["refusal", *map(str, wanted.values())], "--csv: refused", str(row))
@@ -140,7 +135,7 @@ def test_named_lists():
         (["refused-15.list", "transfers.csv"], "month.sheet", "refused-15.list"),
         (["refused-13.list", "transfers.csv"], "refused-9.sheet", ""),
     ):
-        words = [*with_lists(*lists), month]
+        words = [*LISTS.words(*lists), month]
         found, = json.loads(report("--form", "json", *words, folder=EXAMPLES).stdout)
         by_json = found["transfers"], found["refusal"] and found["refusal"]["list"] or ""
         check(by_json == (lists, refused), f"--json: {words}", str(found))
@@ -190,11 +185,11 @@ def test_changed_sheet(folder):
     ):
         turned_down("--sheet", folder, ["--sheet", *words, "--transfers", "a.list", "month.sheet"], message, status=2,
                     command=report)
-    turned_down("--sheet", folder, ["--sheet", "one", "month.sheet"], "settle: --sheet goes with --transfers", status=2,
-                command=report)
+    turned_down("--sheet", folder, ["--sheet", "one", "month.sheet"], "settle: --sheet goes with --transfers or "
+                "--complex", status=2, command=report)
     before = files_in(folder)
     refused = EXAMPLES / "refused-14.list"
-    words = ["--sheet", "old", "--force", *with_lists("a.list", refused), "month.sheet"]
+    words = ["--sheet", "old", "--force", *LISTS.words("a.list", refused), "month.sheet"]
     done = report(*words, folder=folder)
     check((done.returncode, done.stdout) == (1, b"N14\n") and files_in(folder) == before, "--sheet: refused",
           words_of(done))
@@ -219,7 +214,7 @@ def test_several(folder):
     for names, volumes in ((["a.list", "b.list"], [40, 0, 60]), (["none.list"], [100, 0, 0]), (["b.list"], None),
                            (["a.list", "none.list"], [40, 60, 0]), (["b.list", "a.list"], None),
                            (["a.list", "a.list"], None), (["a.list", "b.list", "b.list"], None)):
-        done = report("--sheet", "new", "--force", *with_lists(*names), "month.sheet", folder=folder)
+        done = report("--sheet", "new", "--force", *LISTS.words(*names), "month.sheet", folder=folder)
         if volumes is None:
             check((done.returncode, done.stdout) == (1, b"N15\n") and not (folder / "new").exists(),
                   f"--transfers {names}: refused", words_of(done))
@@ -227,56 +222,76 @@ def test_several(folder):
         check(done.returncode == 0 and contracts((folder / "new").read_bytes()) == volumes, f"--transfers {names}",
               words_of(done))
         (folder / "new").unlink()
-    done = report("--explain", *with_lists("a.list", "a.list"), "month.sheet", folder=folder)
+    done = report("--explain", *LISTS.words("a.list", "a.list"), "month.sheet", folder=folder)
     check(b"a.list, byte 8: entry 0, amount, 6.0 MW (at its turn the giver, consumer 0, has 4.0)" in done.stderr,
           "--transfers: the volumes of the second list's turn", words_of(done))
 
 
+# The second and third line of a text that are wrong, and what is said of it.
+BAD_TEXTS = {
+    "--transfers": ("day,giver,taker,amount\n1,0,1,1.05\n1,0,1\n", 'line 2: amount: "1.05" has more than one decimal '
+                    "(and 1 more; tools/sheet check --transfers LIST MONTH lists them all)"),
+    "--complex": ("consumer,1\nimported,1.05\ndrawn\n", 'line 2: imported: "1.05" has more than one decimal '
+                  "(and 1 more; tools/sheet check --complex RECORD MONTH lists them all)"),
+}
+
+
 def test_statuses(folder):
-    """Lists that cannot be read, and statuses."""
-    (folder / "bad.csv").write_text("day,giver,taker,amount\n1,0,1,1.05\n1,0,1\n")
-    (folder / "long.list").write_bytes(bytes(65_537))
-    for words, message in (
-        (["none.list"], "settle: none.list: cannot be read: No such file"),
-        (["none.csv"], "settle: none.csv: cannot be read: No such file"),
-        (["."], "settle: .: cannot be read: Is a directory"),
-        (["bad.csv"], 'settle: bad.csv, line 2: amount: "1.05" has more than one decimal (and 1 more; tools/sheet '
-                      "check --transfers LIST MONTH lists them all)"),
-        (["long.list"], "settle: long.list: has 65537 bytes, and the program takes at most 65536"),
-        (["none.list", MONTHS[1]], "settle: --transfers goes with one month"),
-    ):
-        turned_down("--transfers", folder, ["--transfers", *words, MONTHS[1]], message, status=2, command=report)
-    for words, status in (([], 0), (["--strict"], 1), (["--form", "json"], 0), (["--strict", "--form", "csv"], 1)):
-        done = report(*words, "--transfers", "refused-13.csv", "month.toml", folder=EXAMPLES)
-        check(done.returncode == status and not done.stderr, f"report --transfers: status of {words}", words_of(done))
-    done = report("--strict", "--transfers", "transfers.csv", "month.toml", folder=EXAMPLES)
-    check(done.returncode == 0, "report --transfers: status of an applied list", words_of(done))
+    """Lists and records that cannot be read, and statuses."""
+    for kind in CHANGES:
+        bad, long, none = f"bad{kind.text}", f"long{kind.packed}", f"none{kind.packed}"
+        content, said = BAD_TEXTS[kind.option]
+        (folder / bad).write_text(content)
+        (folder / long).write_bytes(bytes(65_537))
+        for words, message in (
+            ([none], f"settle: {none}: cannot be read: No such file"),
+            ([f"none{kind.text}"], f"settle: none{kind.text}: cannot be read: No such file"),
+            (["."], "settle: .: cannot be read: Is a directory"), ([bad], f"settle: {bad}, {said}"),
+            ([long], f"settle: {long}: has 65537 bytes, and the program takes at most 65536"),
+            ([none, MONTHS[1]], f"settle: {kind.option} goes with one month"),
+        ):
+            turned_down(kind.option, folder, [kind.option, *words, MONTHS[1]], message, status=2, command=report)
+        refused = kind.files(f"refused-{kind.refused[0]}")[0]
+        for words, status in (([], 0), (["--strict"], 1), (["--form", "json"], 0), (["--strict", "--form", "csv"], 1)):
+            done = report(*words, kind.option, refused, "month.toml", folder=EXAMPLES)
+            check(done.returncode == status and not done.stderr, f"report {kind.option}: status of {words}",
+                  words_of(done))
+        done = report("--strict", kind.option, kind.files()[0], "month.toml", folder=EXAMPLES)
+        check(done.returncode == 0, f"report {kind.option}: status of what is applied", words_of(done))
 
 
 def test_other_programs(folder):
     """What is neither a sheet as long as before nor a refusal is not passed on; the program's number holds."""
-    program, month = folder / "program", MONTHS[1]
-    program.write_text(STAND_IN)
-    program.chmod(0o755)
-    words = ["--transfers", EXAMPLES / "transfers.list", month]
-    for said in (b"", b"N", b"N13", b"N13\nN13\n", CHANGED[:-1], CHANGED + b"\0", b"\1" + CHANGED[1:], b"\0",
-                 b"\xff\n"):
-        (folder / "program.writes").write_bytes(said)
-        turned_down("a bad program", folder, words, "settle: what the program wrote for "
-                    f"{EXAMPLES / 'transfers.list'} is neither a sheet nor a refusal", status=2, command=report,
-                    transfer_program=program)
-    (folder / "program.writes").write_bytes(b"N14\n")
-    done = report("--explain", *words, transfer_program=program)
-    check(done.stdout == b"N14\n" and b"has another answer; the program's holds" in done.stderr,
-          "--explain --transfers: another answer", words_of(done))
-    program.write_text("#!/bin/sh\nexit 1\n")
-    turned_down("a program that fails", folder, words, f"the program failed on {EXAMPLES / 'transfers.list'}", status=2,
-                command=report, transfer_program=program)
-    for other, message in ((folder / "none", "none cannot be started"), ("", "--transfers needs --transfer-program")):
-        turned_down("no program", folder, words, message, status=2, command=report, transfer_program=other)
+    program = folder / "program"
+    for kind in CHANGES:
+        program.write_text(STAND_IN)
+        program.chmod(0o755)
+        check_program(kind, folder, {kind.keyword: program})
+    words = ["--transfers", EXAMPLES / "transfers.list", MONTHS[1]]
     kept, tempfile.tempdir = tempfile.tempdir, str(folder / "none")
     try:
         turned_down("no room", folder, words, "settle: a temporary file cannot be written: No such file", status=2,
                     command=report)
     finally:
         tempfile.tempdir = kept
+
+
+def check_program(kind, folder, program):
+    """The same of one kind, with a stand-in as its program."""
+    packed, after = kind.files()[1], (EXAMPLES / f"{kind.after}.sheet").read_bytes()
+    words = [kind.option, packed, MONTHS[1]]
+    for said in (b"", b"N", b"N13", b"N13\nN13\n", after[:-1], after + b"\0", b"\1" + after[1:], b"\0", b"\xff\n"):
+        (folder / "program.writes").write_bytes(said)
+        turned_down("a bad program", folder, words, f"settle: what the program wrote for {packed} is neither a sheet "
+                    "nor a refusal", status=2, command=report, **program)
+    number = b"N%d\n" % kind.refused[-1]
+    (folder / "program.writes").write_bytes(number)
+    done = report("--explain", *words, **program)
+    check(done.stdout == number and b"has another answer; the program's holds" in done.stderr,
+          f"--explain {kind.option}: another answer", words_of(done))
+    (folder / "program").write_text("#!/bin/sh\nexit 1\n")
+    turned_down("a program that fails", folder, words, f"the program failed on {packed}", status=2, command=report,
+                **program)
+    needed = f"{kind.option} needs --{kind.keyword.replace('_', '-')}"
+    for other, message in ((folder / "none", "none cannot be started"), ("", needed)):
+        turned_down("no program", folder, words, message, status=2, command=report, **{kind.keyword: other})

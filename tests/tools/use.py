@@ -5,12 +5,11 @@ import shutil
 import struct
 import subprocess
 import sys
-from pathlib import Path
 
 import records
 import refusals
 import results
-from checks import EXAMPLES, REPORT, SHEET, check, report, run, sheet, turned_down, words_of
+from checks import CHANGES, EXAMPLES, LISTS, RECORDS, REPORT, SHEET, check, report, run, sheet, turned_down, words_of
 from texts import BACK, CONSTANT, CSV, GOOD, changed
 
 
@@ -66,9 +65,34 @@ def test_files(folder):
 # Names that say something else than what is read or written under them, and what is said.
 NOT_A_MONTH = "is a list by its name; give it with its month, as --transfers LIST MONTH"
 NOT_A_LIST = "is a month by its name, and --transfers wants a list"
+RECORD_NO_MONTH = "is a record by its name; give it with its month, as --complex RECORD MONTH"
+RECORD_NO_LIST = "is a record by its name, and --transfers wants a list"
+NOT_A_RECORD = "by its name, and --complex wants a record; the name of its text ends in .complex.csv"
 KINDS = [
     *((f"{command} {name}", f"{name}: {NOT_A_MONTH}") for command in ("check", "explain")
       for name in ("a.list", "a.csv", "A.CSV", ".list")),
+    *((f"{command} {name}", f"{name}: {RECORD_NO_MONTH}") for command in ("check", "explain")
+      for name in ("a.complex", "a.complex.csv", "A.Complex.CSV", ".complex")),
+    ("calendar a.complex", "a.complex: is a packed record by its name, and calendar wants a month"),
+    *((f"{command} --transfers {name} a.sheet", f"{name}: {RECORD_NO_LIST}") for command in ("check", "explain", "show")
+      for name in ("a.complex", "a.complex.csv", "A.COMPLEX.csv")),
+    *((f"{command} --complex {name} a.sheet", f"{name}: is {what} {NOT_A_RECORD}") for command in ("check", "show")
+      for name, what in (("a.sheet", "a month"), ("a.toml", "a month"), ("a.list", "a list"), ("a.csv", "a list"))),
+    ("show --complex a.complex a.complex.csv", f"a.complex.csv: {RECORD_NO_MONTH}"),
+    ("result a.bin --sheet a.complex", f"a.complex: {RECORD_NO_MONTH}"),
+    ("result a.bin --sheet a.sheet --complex a.list", f"a.list: is a list {NOT_A_RECORD}"),
+    ("pack a.complex new", "a.complex: is a packed record by its name, and pack wants a text"),
+    ("pack a.toml new.complex", "new.complex: is a packed record by its name, and a sheet is to be written"),
+    ("pack a.csv new.complex", "new.complex: is a packed record by its name, and a packed list is to be written"),
+    ("pack a.complex.csv new.list", "new.list: is a packed list by its name, and a packed record is to be written"),
+    ("pack a.complex.csv a.complex.csv --force",
+     "a.complex.csv: is a record's text by its name, and a packed record is to be written"),
+    ("unpack a.complex.csv new", "a.complex.csv: is a record's text by its name, and unpack wants bytes"),
+    ("unpack a.sheet new.complex.csv",
+     "new.complex.csv: is a record's text by its name, and a month's text is to be written"),
+    *((f"unpack a.complex {name}", f"{name}: is to be the text of a record, whose name ends in .complex.csv")
+      for name in ("new.csv", "new.toml", "new")),
+    ("unpack a.list new.complex.csv", "new.complex.csv: is to be the text of a list, whose name ends in .csv"),
     ("calendar a.list", "a.list: is a packed list by its name, and calendar wants a month"),
     ("calendar A.CSV", "A.CSV: is a list's text by its name, and calendar wants a month"),
     *((f"{command} --transfers {name} a.sheet", f"{name}: {NOT_A_LIST}") for command in ("check", "explain", "show")
@@ -103,6 +127,12 @@ SETTLE_KINDS = [
      "new.toml: is a month's text by its name, and a sheet is to be written"),
     ("--transfers a.list --sheet new.LIST a.sheet",
      "new.LIST: is a packed list by its name, and a sheet is to be written"),
+    ("a.complex", f"a.complex: {RECORD_NO_MONTH}"),
+    ("--complex a.csv a.sheet", f"a.csv: is a list {NOT_A_RECORD}"),
+    ("--transfers a.complex.csv a.sheet", f"a.complex.csv: {RECORD_NO_LIST}"),
+    ("--complex a.complex --sheet new.complex.csv a.sheet",
+     "new.complex.csv: is a record's text by its name, and a sheet is to be written"),
+    ("--result new.complex a.sheet", "new.complex: is a packed record by its name, and a result is to be written"),
     ("--result new.csv a.sheet", "new.csv: is a list's text by its name, and a result is to be written"),
     ("--result new.sheet a.sheet", "new.sheet: is a sheet by its name, and a result is to be written"),
 ]
@@ -110,26 +140,30 @@ SETTLE_KINDS = [
 
 def test_kinds(folder):
     """A name that says something else is turned down, whatever is in the file; one that says nothing is taken."""
-    for name in ("transfers.csv", "transfers.list", "exam-126.sheet", "exam-126.toml"):
-        shutil.copy(EXAMPLES / name, folder / f"a{Path(name).suffix}")
+    for name in ("transfers.csv", "transfers.list", "exam-126.sheet", "exam-126.toml", "plant.complex",
+                 "plant.complex.csv"):
+        shutil.copy(EXAMPLES / name, folder / f"a{name[name.index('.'):]}")
     (folder / "a.bin").write_bytes(result_bytes(0, 1))
     for line, message in KINDS:
         turned_down(line, folder, line.split(), f"tools/sheet: {message}")
     for line, message in SETTLE_KINDS:
         turned_down(line, folder, line.split(), f"settle: {message}", status=2, command=report)
-    month, packed = ((EXAMPLES / name).read_bytes() for name in ("month.sheet", "transfers.list"))
+    month = (EXAMPLES / "month.sheet").read_bytes()
     (folder / "month").write_bytes(month)
-    (folder / "list").write_bytes(packed)
-    for words, stdin in ((["list", "-"], month), (["/dev/stdin", "month"], packed)):
-        done = run(SHEET, "explain", "--transfers", *words, folder=folder, stdin=stdin)
-        check(done.stdout == b"accepted\n", f"names that say nothing: {words}", words_of(done))
+    for kind in CHANGES:
+        packed = kind.files()[1].read_bytes()
+        (folder / "packed").write_bytes(packed)
+        for words, stdin in ((["packed", "-"], month), (["/dev/stdin", "month"], packed)):
+            done = run(SHEET, "explain", kind.option, *words, folder=folder, stdin=stdin)
+            check(done.stdout == b"accepted\n", f"names that say nothing: {kind.option} {words}", words_of(done))
 
 
 def test_wrong_use(folder):
     for line in ("", "settle", "pack month.toml", "pack month.toml new more", "pack --forced month.toml new",
                  "pack - new", "unpack", "unpack in.sheet -", "unpack in.sheet --force", "show", "show a b",
-                 "show --transfers - a", "calendar a b", "calendar --transfers a b", "explain", "explain a b",
-                 "explain --transfers a", "result", "result a.bin --sheet", "result a.bin b.bin",
+                 "show --transfers - a", "show --complex - a", "explain --complex a", "check a --complex",
+                 "result a.bin --complex a.complex", "calendar --complex a b", "calendar a b",
+                 "calendar --transfers a b", "explain", "explain a b", "explain --transfers a", "result", "result a.bin --sheet", "result a.bin b.bin",
                  "result a.bin --transfers a.list", "check", "check a b", "check a --transfers", "new", "new 2021",
                  "new 2021-12 - x", "new 2021-12 --rows", "new 2021-12 --rows -1", "new 1-1 --rows 1.0"):
         turned_down(f"wrong use: {line}", folder, line.split(), "usage: tools/sheet", status=2)
@@ -203,33 +237,43 @@ def test_impossible(folder):
           "result without a sheet: n", words_of(done))
 
 
-def test_transferred_results(folder):
-    """With lists, a result is held to the month after them, in the order given."""
+def test_changed_results(folder):
+    """With lists and records, a result is held to the month after them, in the order given."""
     month = EXAMPLES / "month.sheet"
-    for name in ("month", "month-transferred"):
+    for name in ("month", "month-transferred", "month-averaged"):
         listing, content = (EXAMPLES / f"{name}.listing").read_text(), (EXAMPLES / f"{name}.sheet").read_bytes()
         (folder / f"{name}.bin").write_bytes(results.result_of_listing(listing, content))
     (folder / "back.csv").write_text(BACK)
 
-    def held(name, *lists):
-        words = [word for each in lists for word in ("--transfers", each)]
+    def held(name, *words):
         return sheet("result", name, "--sheet", month, *words, folder=folder)
-    there, back = EXAMPLES / "transfers.list", "back.csv"
-    for name, lists in (("month-transferred", [there]), ("month-transferred", [there.with_suffix(".csv")]),
-                        ("month", [there, back]), ("month-transferred", [there, back, there])):
-        done = held(f"{name}.bin", *lists)
+    (text, there), back, (plant_text, plant) = LISTS.files(), "back.csv", RECORDS.files()
+    for name, words in (("month-transferred", LISTS.words(there)), ("month-transferred", LISTS.words(text)),
+                        ("month", LISTS.words(there, back)), ("month-transferred", LISTS.words(there, back, there)),
+                        ("month-averaged", RECORDS.words(plant)), ("month-averaged", RECORDS.words(plant_text, plant)),
+                        ("month-averaged", [*LISTS.words(there), *RECORDS.words(plant), *LISTS.words(back)])):
+        done = held(f"{name}.bin", *words)
         check(done.returncode == 0 and done.stdout == (EXAMPLES / f"{name}.listing").read_bytes(),
-              f"result --transfers: {name}, {len(lists)} lists", words_of(done))
-    for name, lists in (("month-transferred.bin", []), ("month.bin", [there])):
-        done = held(name, *lists)
-        ends = "".join(f", after {each}" for each in lists)
+              f"result: {name}, after {words}", words_of(done))
+    moved = {8, 10, 19, 29, 31}
+    for name, words, consumers in (
+        ("month-transferred.bin", [], moved), ("month.bin", LISTS.words(there), moved),
+        ("month-averaged.bin", [], {9}), ("month.bin", RECORDS.words(plant), {9}),
+        ("month.bin", [*RECORDS.words(plant), *LISTS.words(there)], {9, *moved}),
+    ):
+        done = held(name, *words)
+        ends = "".join(f", after {each}" for each in words[1::2])
         said = done.stderr.decode().splitlines()
         check(done.returncode == 1 and {line.split(": ")[2] for line in said} == {
-            f"consumer {number}" for number in (8, 10, 19, 29, 31)} and not done.stdout
+            f"consumer {number}" for number in consumers} and not done.stdout
             and all(line.endswith(f", so this is no result of {month}{ends}") for line in said),
-            f"result --transfers: {name} is another's", words_of(done))
-    turned_down("result", folder, ["result", "month.bin", "--sheet", month, "--transfers", back, "--transfers", there],
-                "tools/sheet: back.csv: is refused by 15, so there is no result")
+            f"result: {name} is no result after {words}", words_of(done))
+    words = ["result", "month.bin", "--sheet", month, *RECORDS.words(plant)]
+    for more, message in (
+        (LISTS.words(back, there), "back.csv: is refused by 15"),
+        (RECORDS.words(EXAMPLES / "refused-17.complex"), f"{EXAMPLES / 'refused-17.complex'}: is refused by 17"),
+    ):
+        turned_down("result", folder, [*words, *more], f"tools/sheet: {message}, so there is no result")
 
 
 OLD_PYTHON = """\
