@@ -38,14 +38,16 @@ class Run:
         """The answers on which both programs agree, and the rival's marks."""
         files = {part: self.folder / f"{self.name}-{start:06}.{part}" for part in ("cases", "rival", "module", "marks")}
         programs.write_cases(files["cases"], cases)
-        for part, words in (("rival", [programs.RIVAL, self.answer_command, files["cases"], files["rival"]]),
-                            ("marks", [programs.RIVAL, self.marks_command, files["cases"], files["marks"]]),
-                            ("module", [*self.driver, files["cases"], files["module"], start])):
-            status, printed = programs.run_program(words)
+
+        def run(program, part, *words):
+            status, printed = programs.run_program([*program, files["cases"], files[part], *words])
             if status != 0:
                 self.stopped(part, status, printed, start, cases)
+        run([programs.RIVAL, self.answer_command], "rival")
+        run(self.driver, "module", start)
         by_rival, by_module = (programs.read_answers(files[part], len(cases)) for part in ("rival", "module"))
         self.compare(start, cases, by_rival, by_module)
+        run([programs.RIVAL, self.marks_command], "marks")
         marks = files["marks"].read_text().splitlines()
         if len(marks) != len(cases):
             raise programs.Trouble(f"{files['marks']} does not hold the marks of {len(cases)} cases")
