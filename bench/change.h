@@ -41,9 +41,9 @@ static inline uint32_t joined(const uint8_t *at, uint32_t days, int day)
 }
 
 /*
- * Whether a power is above the ceiling, 65,536 + 34,464, where none has a bit from the 17th on. A power of the bytes 0, b,
- * c, d is 256 b + 65,536 c + 16,777,216 d to the machine, and the sum below is 256 (256 c + d + b) + c. It is above the
- * ceiling where b is 1 and the sum at least 256 (34,464 + 2).
+ * Whether a power is above the ceiling, 65,536 + 34,464, where none has a bit from the 17th on. A power of the bytes 0,
+ * b, c, d is 256 b + 65,536 c + 16,777,216 d to the machine, and the sum below is 256 (256 c + d + b) + c. It is above
+ * the ceiling where b is 1 and the sum at least 256 (34,464 + 2).
  */
 static inline bool above(const uint8_t *at, uint32_t days, int day)
 {

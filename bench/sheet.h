@@ -1,4 +1,4 @@
-/* What settle.c, transfer.c and average.c share: the sheet's bytes, its header, numbers that all try in the same way. */
+/* What settle.c, transfer.c and average.c share: the sheet's bytes, its header, numbers that all try in one way. */
 #ifndef BENCH_SHEET_H
 #define BENCH_SHEET_H
 

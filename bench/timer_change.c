@@ -4,9 +4,9 @@
  *
  *   timer_change transfer|average module|c|none CALLS CASE [quiet]
  *
- * CASE holds sheet length (4 bytes, highest first), length of list or record (4), the sheet, the list or record, which is
- * to leave the sheet as it was. module: the proved archive. c: bench/transfer.c or bench/average.c. none: the loop with
- * the call left out. quiet: nothing is printed, so that instructions can be counted.
+ * CASE holds sheet length (4 bytes, highest first), length of list or record (4), the sheet, the list or record, which
+ * is to leave the sheet as it was. module: the proved archive. c: bench/transfer.c or bench/average.c. none: the loop
+ * with the call left out. quiet: nothing is printed, so that instructions can be counted.
  */
 #include "clock.h"
 

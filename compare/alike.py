@@ -72,8 +72,8 @@ ALIKE = [
       "not (eqb (listLength l) (length l)) ∷ []"]),
     ("the entry past the last is read as an amount of 0, from consumer 0 to itself: it can be met",
      ["Transfers.turnTests: any (overdrawnAt v l) (entries l) → any (overdrawnAt v l) (entries l + 1)"]),
-    ("no month asks for a record of fewer than 9 bytes: the length that such a record states is not its own, or not the "
-     "month's",
+    ("no month asks for a record of fewer than 9 bytes: the length that such a record states is not its own, or not "
+     "the month's",
      ["Averaging.badRecord: ltb (length r) recordFront ∷ not (eqb (recordLength r) (length r)) ∷ [] → "
       "not (eqb (recordLength r) (length r)) ∷ []",
       "Averaging.badRecord: ltb (length r) recordFront → ltb (length r) recordHour"]),

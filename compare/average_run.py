@@ -6,9 +6,9 @@ volume or charge, and every other line of the result is the same.
 """
 import record_cases
 from change_cases import ChangeCase
-from change_run import compare_cases, exact_case, print_coverage
+from change_run import compare_cases, exact_case
 from records import result_figures
-from refused_lists import OF_SHEET
+from refused_changes import OF_SHEET
 from running import CHUNK, RecordRun, SheetRun, answer_text
 
 MARKS = {
@@ -68,16 +68,18 @@ def compare_pairs(run, settling, count):
     return moved
 
 
+def moved_in(moved, count):
+    """Says in how many pairs a figure moved; gives the words of a failure if they are too few, or none."""
+    print(f"higher powers drawn: {count} pairs of records, in {moved} the complex's volume or charge is higher, "
+          "in none lower")
+    return "in less than half of the pairs of records a volume or charge moved" if 2 * moved < count else ""
+
+
 def compare_averages(options, folder):
     """Gives the words of what failed without being a difference, or none."""
     where = options.seed, folder, options.keep
-    coverage, done = compare_cases(RecordRun("record", *where), SheetRun("record-sheet", *where), options.records, MARKS)
-    print(f"records: {done} of {options.records} taken; no byte but the peak's changed, the sheet accepted in the same room")
-    print_coverage(coverage, "record")
-    failed = coverage.failure(options.records, "records")
-    if failed:
-        return failed
-    count = options.record_pairs
-    moved = compare_pairs(RecordRun("pair-record", *where), SheetRun("pair-record-sheet", *where), count)
-    print(f"higher powers drawn: {count} pairs of records, in {moved} the complex's volume or charge moved, in none down")
-    return "in less than half of the pairs of records a volume or charge moved" if 2 * moved < count else ""
+    failed = compare_cases(RecordRun("record", *where), SheetRun("record-sheet", *where), options.records, MARKS,
+                           "taken; no byte but the peak's changed")
+    return failed or moved_in(
+        compare_pairs(RecordRun("pair-record", *where), SheetRun("pair-record-sheet", *where), options.record_pairs),
+        options.record_pairs)

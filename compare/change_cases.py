@@ -30,11 +30,14 @@ def in_bytes(drawn):
 class Kinds:
     """Every kind of case that an entry is tried with."""
 
-    def __init__(self, given, groups, shares, done):
-        """given: what the sheet is changed by, in a word; shares: cases of each group in a hundred; done: the groups
-        in which nothing is turned down."""
-        self.given, self.groups, self.shares, self.done = given, groups, shares, done
-        self.schedule = sheets.make_schedule({group: shares[group] for group in groups})
+    def __init__(self, given, own, refused_sheets, shares, done):
+        """given: what the sheet is changed by, in a word; own: its groups; refused_sheets: the corners of each number
+        of the sheet; shares: cases of each group in a hundred; done: the groups in which nothing is turned down."""
+        of_sheet = {f"sheet_{number}": corners for number, corners in refused_sheets.items()}
+        self.given, self.done = given, done
+        self.groups = {**own, **of_sheet}
+        self.shares = {**shares, **dict.fromkeys(of_sheet, 1)}
+        self.schedule = sheets.make_schedule({group: self.shares[group] for group in self.groups})
 
     def draw_case(self, rng, group, corner):
         return ChangeCase(f"{group}/{corner}", *map(in_bytes, self.groups[group][corner](rng)))

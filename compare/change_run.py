@@ -20,8 +20,8 @@ def settle_done(run, start, given, cases, answers):
     return len(settled) // 2
 
 
-def compare_cases(run, settling, count, marks):
-    """Gives what was reached, and how many sheets were changed."""
+def compare_cases(run, settling, count, marks, told):
+    """Gives the words of what was never reached, or none. told: what is said of the sheets that were changed."""
     kinds = run.kinds
     coverage, done = Coverage(marks, kinds.groups), 0
     for start in range(0, count, CHUNK):
@@ -29,7 +29,9 @@ def compare_cases(run, settling, count, marks):
         answers, marked = run.answers(start, cases)
         coverage.add(cases, marked)
         done += settle_done(settling, 2 * done, kinds.given, cases, answers)
-    return coverage, done
+    print(f"{kinds.given}s: {done} of {count} {told}, the sheet accepted in the same room")
+    print_coverage(coverage, kinds.given)
+    return coverage.failure(count, f"{kinds.given}s")
 
 
 def print_coverage(coverage, given):

@@ -21,23 +21,10 @@ class ListPair(NamedTuple):
 
 # ------------------------------------------------------------------ cases
 
-GROUPS = {
-    "applied": APPLIED,
-    "long": LONG,
-    "list_13": LIST_13,
-    "list_14": LIST_14,
-    "list_15": LIST_15,
-    **{f"sheet_{number}": corners for number, corners in REFUSED_SHEETS.items()},
-    "several_rules": SEVERAL_RULES,
-    "damaged": DAMAGED,
-}
-
-# Cases of each group in a hundred.
-SHARES = {
-    "applied": 47, "long": 3, "list_13": 14, "list_14": 5, "list_15": 11, "several_rules": 5, "damaged": 4,
-    **{f"sheet_{number}": 1 for number in REFUSED_SHEETS},
-}
-KINDS = Kinds("list", GROUPS, SHARES, done=("applied", "long"))
+GROUPS = {"applied": APPLIED, "long": LONG, "list_13": LIST_13, "list_14": LIST_14, "list_15": LIST_15,
+          "several_rules": SEVERAL_RULES, "damaged": DAMAGED}
+SHARES = {"applied": 47, "long": 3, "list_13": 14, "list_14": 5, "list_15": 11, "several_rules": 5, "damaged": 4}
+KINDS = Kinds("list", GROUPS, REFUSED_SHEETS, SHARES, done=("applied", "long"))
 
 # ------------------------------------------------------------------ pairs of demand 3 with a list
 

@@ -16,23 +16,10 @@ from taken_records import LONG, MONTHS, TAKEN, behind_producers, record_for, som
 
 # ------------------------------------------------------------------ cases
 
-GROUPS = {
-    "taken": TAKEN,
-    "months": MONTHS,
-    "long": LONG,
-    "record_16": RECORD_16,
-    "record_17": RECORD_17,
-    **{f"sheet_{number}": corners for number, corners in REFUSED_SHEETS.items()},
-    "several_rules": SEVERAL_RULES,
-    "damaged": DAMAGED,
-}
-
-# Cases of each group in a hundred.
-SHARES = {
-    "taken": 38, "months": 10, "long": 2, "record_16": 14, "record_17": 12, "several_rules": 8, "damaged": 5,
-    **{f"sheet_{number}": 1 for number in REFUSED_SHEETS},
-}
-KINDS = Kinds("record", GROUPS, SHARES, done=("taken", "months", "long"))
+GROUPS = {"taken": TAKEN, "months": MONTHS, "long": LONG, "record_16": RECORD_16, "record_17": RECORD_17,
+          "several_rules": SEVERAL_RULES, "damaged": DAMAGED}
+SHARES = {"taken": 38, "months": 10, "long": 2, "record_16": 14, "record_17": 12, "several_rules": 8, "damaged": 5}
+KINDS = Kinds("record", GROUPS, REFUSED_SHEETS, SHARES, done=("taken", "months", "long"))
 
 # ------------------------------------------------------------------ pairs
 

@@ -12,7 +12,7 @@ from powers import ABOVE, AMONG, draw_hour
 from records import COMPLEX_FRONT, COMPLEX_HOUR, MOST_CONSUMERS, TOP_CAPACITY, Month, Sheet, complex_length
 from refusals import BAD_RECORD, HIGH_POWER, TRIED_IN_RECORD
 from refused import LARGEST_4, above
-from refused_lists import OF_SHEET, one_bit_changed, one_byte_changed
+from refused_changes import OF_SHEET, damaged_kinds, one_byte_changed, refused_sheets
 from taken_records import plain_record, some_sheet
 
 DAY = 24 * COMPLEX_HOUR
@@ -21,8 +21,8 @@ DAY = 24 * COMPLEX_HOUR
 
 
 class Known:
-    """A sheet's month and how many consumers it has. Of bytes neither is known; of a sheet that is turned down the month
-    may be one that does not exist."""
+    """A sheet's month and how many consumers it has. Of bytes neither is known; of a sheet that is turned down the
+    month may be one that does not exist."""
 
     def __init__(self, sheet):
         known = isinstance(sheet, Sheet)
@@ -114,17 +114,17 @@ CAUSES_16 = {
     "length_all_ones": length_stated(lambda true: LARGEST_4),
     "length_65536_more": length_stated(lambda true: true + 65536),
     "length_lowest_byte_first": length_stated(refused.backwards),
-    **{f"{name}_lost": bytes_lost(count) for name, count in (("a_byte", 1), ("an_hour", COMPLEX_HOUR), ("a_day", DAY))},
-    **{f"{name}_added": bytes_added(count) for name, count in (("a_byte", 1), ("an_hour", COMPLEX_HOUR), ("a_day", DAY))},
-    **{f"{name}_less": fewer_bytes(count) for name, count in (("a_byte", 1), ("an_hour", COMPLEX_HOUR), ("a_day", DAY))},
-    **{f"{name}_more": more_bytes(count) for name, count in (("a_byte", 1), ("an_hour", COMPLEX_HOUR), ("a_day", DAY))},
+    **{f"{name}_{what}": cause(count) for what, cause in (("lost", bytes_lost), ("added", bytes_added),
+                                                          ("less", fewer_bytes), ("more", more_bytes))
+       for name, count in (("a_byte", 1), ("an_hour", COMPLEX_HOUR), ("a_day", DAY))},
     "another_month": of_another_month,
     "consumer_next": consumer_is(lambda count: count), "consumer_255": consumer_is(lambda count: 255),
 }
 
 # ------------------------------------------------------------------ 17: a power above the ceiling
 
-# A cause takes a random.Random, what is known of the sheet, and a good record; it puts a power above the ceiling into it.
+# A cause takes a random.Random, what is known of the sheet, and a good record, and puts a power above the ceiling into
+# it.
 
 
 def imported_above(choose):
@@ -169,7 +169,8 @@ CAUSES_17 = {
     "imported_next": imported_above(lambda rng: TOP_CAPACITY + 1),
     "imported_above": imported_above(lambda rng: above(rng, TOP_CAPACITY, LARGEST_4)),
     **{f"imported_{figure}": imported_above(lambda rng, figure=figure: figure) for figure in ABOVE[1:]},
-    **{f"{name}_{place}": power_above(name, place) for name in ("drawn", "sent") for place in hours_at(Month(28, 1, 0))},
+    **{f"{name}_{place}": power_above(name, place)
+       for name in ("drawn", "sent") for place in hours_at(Month(28, 1, 0))},
     **{f"{figure}_among_{among}": power_is(among, figure) for among in AMONG for figure in ABOVE},
     "all_above": all_above,
 }
@@ -252,20 +253,5 @@ def another_whole_length(rng, content):
     content[:4] = complex_length(rng.randrange(33)).to_bytes(4, "big")
 
 
-DAMAGES = (one_byte_changed, one_bit_changed, front_changed, any_hours, another_whole_length, refused.cut_short,
-           refused.lengthened, refused.any_bytes, refused.all_noughts, refused.all_ones, refused.empty)
-
-
-def damaged_record(damage):
-    def draw(rng):
-        sheet = some_sheet(rng, draw_month(rng))
-        content = bytearray(Known(sheet).good_record(rng).to_bytes())
-        damage(rng, content)
-        return sheet, bytes(content)
-    return draw
-
-
-DAMAGED = {damage.__name__: damaged_record(damage) for damage in DAMAGES}
-DAMAGED.update((f"sheet_{name}", with_record(draw)) for name, draw in refused.DAMAGED.items())
-REFUSED_SHEETS = {number: {name: with_record(draw) for name, draw in refused.REFUSALS[number].items()}
-                  for number in OF_SHEET}
+DAMAGED = damaged_kinds([front_changed, any_hours, another_whole_length], faulty_record(unchanged), with_record)
+REFUSED_SHEETS = refused_sheets(with_record)

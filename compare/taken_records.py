@@ -175,7 +175,8 @@ SINGLED_OUT = {f"hour_{hour}": on_days(control_day, [hour]) for hour in (0, 16, 
 SINGLED_OUT.update({
     "weekends": on_days(lambda month, day: not working_weekday(month, day), CONTROL_HOURS),
     "holidays": on_days(lambda month, day: holiday(month, day) and working_weekday(month, day), CONTROL_HOURS),
-    "first_control_day": lambda month: month.control_hours()[:6], "last_control_day": lambda month: month.control_hours()[-6:],
+    "first_control_day": lambda month: month.control_hours()[:6],
+    "last_control_day": lambda month: month.control_hours()[-6:],
     "first_hour": lambda month: [0], "last_hour": lambda month: [month.hours - 1],
 })
 

@@ -5,9 +5,9 @@ And of pairs of sheets as in demand 3: one list gets the same answer from both, 
 """
 import list_cases
 from change_cases import ChangeCase
-from change_run import compare_cases, exact_case, print_coverage
+from change_run import compare_cases, exact_case
 from demand_3 import check_pairs, moved_in
-from refused_lists import OF_SHEET
+from refused_changes import OF_SHEET
 from running import CHUNK, ListRun, SheetRun, answer_text
 from transfer_lists import contract_volumes
 
@@ -73,10 +73,8 @@ def changed_in(changed, count):
 def compare_transfers(options, folder):
     """Gives the words of what failed without being a difference, or none."""
     where = options.seed, folder, options.keep
-    coverage, done = compare_cases(ListRun("list", *where), SheetRun("list-sheet", *where), options.lists, MARKS)
-    print(f"lists: {done} of {options.lists} applied; the sum of contract volumes kept, the sheet accepted in the same room")
-    print_coverage(coverage, "list")
-    failed = coverage.failure(options.lists, "lists")
+    failed = compare_cases(ListRun("list", *where), SheetRun("list-sheet", *where), options.lists, MARKS,
+                           "applied; the sum of contract volumes kept")
     if failed:
         return failed
     count = options.list_pairs
