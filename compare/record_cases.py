@@ -9,10 +9,10 @@ from typing import NamedTuple
 from accepted import credit_sheet
 from change_cases import Kinds
 from complex_records import peak_of
-from drawing import capacity, draw_month, draw_sheet, spread
+from drawing import capacity, spread
 from refused_records import DAMAGED, RECORD_16, RECORD_17, REFUSED_SHEETS, SEVERAL_RULES
 from sheets import higher_powers
-from taken_records import LONG, MONTHS, TAKEN, behind_producers, record_for, some_sheet
+from taken_records import LONG, MONTHS, TAKEN, behind_producers, plain_record, record_for, some_consumer, some_sheet
 
 # ------------------------------------------------------------------ cases
 
@@ -42,10 +42,19 @@ PAIR_SHEETS = {
 def more_drawn(rng, month, record):
     """Higher powers drawn: as a rule in control hours, now and then in any hours or in none."""
     second = deepcopy(record)
-    for _ in range(rng.choice((0, 1, 1, 1, 2, 2, 3, 3, 3, 3, 3, 3))):
+    for _ in range(rng.choice((0, 1, 1, 2, 3, 3, 4, 4, 5, 5, 5, 5))):
         hours = month.control_hours() if rng.random() < 0.9 else []
         higher_powers(rng, second.drawn, hours or range(month.hours))
     return second
+
+
+def first_of_pair(rng, sheet):
+    """As a rule something is left in every hour; otherwise powers at will."""
+    if rng.random() < 0.3:
+        return plain_record(rng, sheet.month, some_consumer(rng, sheet))
+    high = rng.randrange(10, 90_000)
+    net = spread(rng, sheet.month, rng.choice((0, high // 2, high)), high)
+    return record_for(rng, sheet, net, rng.choice((0, 0, 0, high // 10, high // 3, high)))
 
 
 def contract_below(rng, peak):
@@ -58,9 +67,7 @@ def pair(seed, index):
     rng = random.Random(f"{seed}/record-pair/{index}")
     name = list(PAIR_SHEETS)[0 if index % 2 else 1 + index // 2 % 2]
     sheet = PAIR_SHEETS[name](rng)
-    high = rng.randrange(10, 90_000)
-    net = spread(rng, sheet.month, rng.choice((0, high // 2, high)), high)
-    record = record_for(rng, sheet, net, rng.choice((0, 0, 0, high // 10, high // 3, high)))
+    record = first_of_pair(rng, sheet)
     sheet.consumers[record.consumer].contract = contract_below(rng, peak_of(sheet.month, record))
     second = more_drawn(rng, sheet.month, record)
     return RecordPair(f"pair/{name}", sheet.to_bytes(), record.to_bytes(), second.to_bytes())

@@ -6,7 +6,6 @@ A corner draws a sheet and a record; either may be bytes, where it is damaged.
 from array import array
 
 import refused
-from complex_records import ComplexRecord
 from drawing import draw_month
 from powers import ABOVE, AMONG, draw_hour
 from records import COMPLEX_FRONT, COMPLEX_HOUR, MOST_CONSUMERS, TOP_CAPACITY, Month, Sheet, complex_length

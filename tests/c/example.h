@@ -50,7 +50,7 @@ static const uint8_t members_unmeasured[44] = {
     0, 0, 3, 232, 0, 0, 4, 26, 0, 0, 10, 0, 1, 134, 160,
 };
 
-/* Consumer 0 as an industrial complex: 176.0 drawn and 30.0 sent out in every hour, 20.0 imported. Its peak is 126.0. */
+/* Consumer 0 as an industrial complex: 176.0 drawn and 30.0 sent out in every hour, 20.0 imported. Its peak: 126.0. */
 enum { RECORD = CAPACITY_RECORD_FRONT + 24 * 30 * CAPACITY_RECORD_HOUR };
 
 static void fill_record(uint8_t record[RECORD])
