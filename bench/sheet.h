@@ -1,4 +1,4 @@
-/* What settle.c and transfer.c share: the sheet's bytes, its header, and those numbers that both try in the same way. */
+/* What settle.c, transfer.c and average.c share: the sheet's bytes, its header, numbers that all try in one way. */
 #ifndef BENCH_SHEET_H
 #define BENCH_SHEET_H
 
@@ -46,6 +46,20 @@ static inline void store8(uint8_t *at, uint64_t x)
 {
     x = __builtin_bswap64(x);
     memcpy(at, &x, sizeof x);
+}
+
+/* ---------------------------------------------------------------- numbers */
+
+/* a less b, not below 0. */
+static inline uint32_t less(uint32_t a, uint32_t b)
+{
+    return a > b ? a - b : 0;
+}
+
+/* a / b to the nearest whole, a half upward. */
+static inline uint32_t nearest4(uint32_t a, uint32_t b)
+{
+    return (2 * a + b) / (2 * b);
 }
 
 /* ---------------------------------------------------------------- the header */

@@ -54,34 +54,36 @@ ZERO_COUNTS.update((corner.__name__, corner) for corner in (nothing_possible, ro
 HOLIDAYS = ("no_holiday", "all_holidays", "some_holidays", "no_working_day", "first_and_last_day")
 
 
-def month_sheet(days, weekday, form):
+def month_in_form(rng, days, weekday, form):
+    month = Month(days, weekday, 0)
+    if form == "all_holidays":
+        return month._replace(holidays=month.all_days)
+    if form == "some_holidays":
+        return month._replace(holidays=rng.getrandbits(days) & rng.getrandbits(days))
+    if form == "no_working_day":
+        working = sum(1 << day for day in range(days) if (weekday - 1 + day) % 7 < 5)
+        return month._replace(holidays=working)
+    return month._replace(holidays=1 | 1 << days - 1) if form == "first_and_last_day" else month
+
+
+def month_sheet(rng, month):
     """Outside use differs from hour to hour, so that a wrong choice of control hours shows in k1."""
-    def draw(rng):
-        month = Month(days, weekday, 0)
-        if form == "all_holidays":
-            month = month._replace(holidays=month.all_days)
-        elif form == "some_holidays":
-            month = month._replace(holidays=rng.getrandbits(days) & rng.getrandbits(days))
-        elif form == "no_working_day":
-            working = sum(1 << day for day in range(days) if (weekday - 1 + day) % 7 < 5)
-            month = month._replace(holidays=working)
-        elif form == "first_and_last_day":
-            month = month._replace(holidays=1 | 1 << days - 1)
-        producer = full_producer(month)
-        producer.deductible = rng.randrange(5000, 15_000)
-        producer.outside = spread(rng, month, producer.deductible, producer.deductible + rng.randrange(1000, 30_000))
-        return one_row_sheet(rng, month, producer, rng.randrange(60_000, TOP_CAPACITY))
-    return draw
+    producer = full_producer(month)
+    producer.deductible = rng.randrange(5000, 15_000)
+    producer.outside = spread(rng, month, producer.deductible, producer.deductible + rng.randrange(1000, 30_000))
+    return one_row_sheet(rng, month, producer, rng.randrange(60_000, TOP_CAPACITY))
 
 
-def all_months():
+def all_months(draw_for):
     """All 28 months in turn, and the five forms of holidays in turn: in 140 corners each month has each form."""
+    def corner(*form):
+        return lambda rng: draw_for(rng, month_in_form(rng, *form))
     for place in range(140):
         days, weekday, form = 28 + place % 4, 1 + place % 28 // 4, HOLIDAYS[place % 5]
-        yield f"days_{days}_weekday_{weekday}_{form}", month_sheet(days, weekday, form)
+        yield f"days_{days}_weekday_{weekday}_{form}", corner(days, weekday, form)
 
 
-MONTHS = dict(all_months())
+MONTHS = dict(all_months(month_sheet))
 
 # ------------------------------------------------------------------ ceilings
 

@@ -18,7 +18,9 @@ ALIKE = [
       "Refusals.tests, doubled",
       "Transfers.listTests, doubled",
       "Transfers.turnTests, doubled",
-      "Transfers.transferTests, doubled"]),
+      "Transfers.transferTests, doubled",
+      "Averaging.recordTests, doubled",
+      "Averaging.averageTests, doubled"]),
     ("a row of the table that stands twice gives what it gives once: the first whose edge p does not pass counts",
      ["Bands.bands, doubled"]),
     ("the table's last row is open above: its edge is never asked",
@@ -58,11 +60,11 @@ ALIKE = [
     ("a number that is at most 0 is 0",
      ["Outcome.outcome: eqb (refusal s room) 0 → leb (refusal s room) 0",
       "Outcome.bufferAfter: eqb (refusal s (length out)) 0 → leb (refusal s (length out)) 0",
+      "Outcome.done: eqb number 0 → leb number 0",
+      "Outcome.sheetAfter: eqb number 0 → leb number 0",
       "Outcome.hoursStretch: eqb (firstOf (formTests s)) 0 → leb (firstOf (formTests s)) 0",
       "Transfers.badFront: eqb ((listLength l - listFront) % entryWidth) 0 → "
-      "leb ((listLength l - listFront) % entryWidth) 0",
-      "Transfers.transferOutcome: eqb (transferRefusal s l) 0 → leb (transferRefusal s l) 0",
-      "Transfers.transferred: eqb (transferRefusal s l) 0 → leb (transferRefusal s l) 0"]),
+      "leb ((listLength l - listFront) % entryWidth) 0"]),
     ("a length of 5 plus a multiple of 7 holds as many sevens as without the 5; of another length 13 asks no entry",
      ["TransferList.entries: listLength l - listFront → listLength l"]),
     ("a list of fewer than 5 bytes has no version: it is read as 0, which is not 1",
@@ -70,6 +72,16 @@ ALIKE = [
       "not (eqb (listLength l) (length l)) ∷ []"]),
     ("the entry past the last is read as an amount of 0, from consumer 0 to itself: it can be met",
      ["Transfers.turnTests: any (overdrawnAt v l) (entries l) → any (overdrawnAt v l) (entries l + 1)"]),
+    ("no month asks for a record of fewer than 9 bytes: the length that such a record states is not its own, or not "
+     "the month's",
+     ["Averaging.badRecord: ltb (length r) recordFront ∷ not (eqb (recordLength r) (length r)) ∷ [] → "
+      "not (eqb (recordLength r) (length r)) ∷ []",
+      "Averaging.badRecord: ltb (length r) recordFront → ltb (length r) recordHour"]),
+    ("17 is asked of a record that ends where the month's hours do: a power past its end is read as 0",
+     ["Averaging.highRecord: any (highAt r) (hours h) → any (highAt r) (hours h + 1)",
+      "Averaging.highRecord: hours h → hoursWidth h"]),
+    ("where the two numbers are the same, both name one consumer",
+     ["Averaging.withPeakOf: m .consumer k → m .consumer c"]),
 ]
 
 

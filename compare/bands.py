@@ -1,5 +1,5 @@
 """Sheets at the edges of the bands, and at the zero rules beside them, for k1 and for consumers."""
-from drawing import draw_mining_days, draw_month, draw_price, full_producer, in_parts, plain_consumer, set_average
+from drawing import draw_mining_days, draw_month, draw_price, full_producer, in_parts, plain_consumer, with_average
 from records import LOWEST_Z, MOST_CONSUMERS, SINGLE_BUYER, TOP_CAPACITY, TOP_Z, Row, Sheet
 
 EDGES = (50, 200, 400, 500)
@@ -27,7 +27,7 @@ def k1_sheet(rng, deductible, average, support):
     producer = full_producer(month)
     producer.deductible = deductible
     below_half = len(month.control_hours()) // 2
-    set_average(rng, month, producer, average, rng.randrange(below_half) if average else 0)
+    producer.outside = with_average(rng, month, average, rng.randrange(below_half) if average else 0)
     rows = [Row(0, SINGLE_BUYER, part, draw_price(rng)) for part in in_parts(rng, support)]
     if support == 0 and rng.random() < 0.5:
         rows = []

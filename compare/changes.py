@@ -6,7 +6,8 @@ from definitions import (Call, Definition, Empty, Field, Function, Let, Name, Nu
 from slips import SLIPS
 
 DEFINITIONS = ("Range", "Units", "Month", "ControlHours", "Bands", "Cut", "Coefficients", "Rows", "Consumers", "Totals",
-               "Fields", "Sheet", "Result", "Refusals", "Outcome", "TransferList", "Transfers", "ControlTable")
+               "Fields", "Sheet", "Result", "Refusals", "Outcome", "TransferList", "Transfers", "ControlTable",
+               "ComplexRecord", "Averaging")
 
 
 class Mutant(NamedTuple):
@@ -71,6 +72,11 @@ NAME_KINDS = (
     ("producerAt", "rowAt", "consumerAt"),
     ("rowRecord", "consumerRecord"),
     ("rowRecordAt", "consumerRecordAt", "totalsAt"),
+    ("contractAt", "peakAt"),
+    ("recordFront", "recordHour"),
+    ("recordLength", "complex", "imported"),
+    ("drawnSeries", "sentSeries"),
+    ("drawn", "sent", "net"),
     ("true", "false"),
 )
 

@@ -141,20 +141,21 @@ def plain_consumer(rng, contract, peak):
     return Consumer(contract, peak, 0, 0, LOWEST_Z, draw_price(rng))
 
 
-def set_average(rng, month, producer, average, rest=0):
-    """Outside use whose sum over the control hours is their count × average + rest; other hours have any use."""
-    producer.outside = spread(rng, month, 0, capacity(3 * average + 1000))
+def with_average(rng, month, average, rest=0):
+    """Powers whose sum over the control hours is their count × average + rest; other hours have any power."""
+    powers = spread(rng, month, 0, capacity(3 * average + 1000))
     hours = month.control_hours()
     rng.shuffle(hours)
     most = min(average, TOP_CAPACITY - average, 500)
     for one, other in zip(hours[0::2], hours[1::2]):
         step = rng.randrange(most + 1)
-        producer.outside[one] = average + step
-        producer.outside[other] = average - step
+        powers[one] = average + step
+        powers[other] = average - step
     for hour in hours:
-        if producer.outside[hour] + rest <= TOP_CAPACITY:
-            producer.outside[hour] += rest
-            return
+        if powers[hour] + rest <= TOP_CAPACITY:
+            powers[hour] += rest
+            break
+    return powers
 
 
 def in_parts(rng, volume):

@@ -1,31 +1,14 @@
-"""The sheets and lists of transfers that the two programs are compared on, drawn from a seed.
-
-A case is a kind, a sheet's bytes and a list's bytes. Kinds, groups and corners are as in sheets.py, and a case depends
-only on the seed and its index.
-"""
+"""The sheets and lists of transfers that the two programs are compared on, and the pairs of demand 3 with a list."""
 import random
 from typing import NamedTuple
 
-import programs
 import sheets
 from accepted import credit_sheet
 from applied_lists import APPLIED, LONG, sheet_of, some_entries, some_sheet, volumes_of
+from change_cases import Kinds, in_bytes
 from drawing import capacity
 from refusals import TRIED_IN_LIST
 from refused_lists import DAMAGED, FAULTS, LIST_13, LIST_14, LIST_15, REFUSED_SHEETS, SEVERAL_RULES
-
-
-class ListCase(NamedTuple):
-    kind: str
-    sheet: bytes
-    list: bytes
-
-    @property
-    def length(self):
-        return len(self.sheet) + len(self.list)
-
-    def to_bytes(self):
-        return programs.list_case_bytes(self.sheet, self.list)
 
 
 class ListPair(NamedTuple):
@@ -38,53 +21,10 @@ class ListPair(NamedTuple):
 
 # ------------------------------------------------------------------ cases
 
-GROUPS = {
-    "applied": APPLIED,
-    "long": LONG,
-    "list_13": LIST_13,
-    "list_14": LIST_14,
-    "list_15": LIST_15,
-    **{f"sheet_{number}": corners for number, corners in REFUSED_SHEETS.items()},
-    "several_rules": SEVERAL_RULES,
-    "damaged": DAMAGED,
-}
-
-# Cases of each group in a hundred.
-SHARES = {
-    "applied": 47, "long": 3, "list_13": 14, "list_14": 5, "list_15": 11, "several_rules": 5, "damaged": 4,
-    **{f"sheet_{number}": 1 for number in REFUSED_SHEETS},
-}
-SCHEDULE = sheets.make_schedule({group: SHARES[group] for group in GROUPS})
-
-
-def in_bytes(drawn):
-    return drawn if isinstance(drawn, bytes) else drawn.to_bytes()
-
-
-def draw_case(rng, group, corner):
-    return ListCase(f"{group}/{corner}", *map(in_bytes, GROUPS[group][corner](rng)))
-
-
-def case(seed, index):
-    rng = random.Random(f"{seed}/list/{index}")
-    return draw_case(rng, *sheets.group_and_corner(GROUPS, SHARES, SCHEDULE, index))
-
-
-def cases(seed, count, start=0):
-    return (case(seed, index) for index in range(start, start + count))
-
-
-def intended_refusal(kind):
-    """The number for which a case was drawn, 0 if the list is to be applied, None if that is left open."""
-    group, corner = kind.split("/")
-    if group in ("applied", "long"):
-        return 0
-    if group == "several_rules":
-        return int(corner.split("_")[0])
-    if group.startswith(("sheet_", "list_")):
-        return int(group.split("_")[1])
-    return None
-
+GROUPS = {"applied": APPLIED, "long": LONG, "list_13": LIST_13, "list_14": LIST_14, "list_15": LIST_15,
+          "several_rules": SEVERAL_RULES, "damaged": DAMAGED}
+SHARES = {"applied": 47, "long": 3, "list_13": 14, "list_14": 5, "list_15": 11, "several_rules": 5, "damaged": 4}
+KINDS = Kinds("list", GROUPS, REFUSED_SHEETS, SHARES, done=("applied", "long"))
 
 # ------------------------------------------------------------------ pairs of demand 3 with a list
 

@@ -16,20 +16,19 @@ def powers_of(producer):
     return producer.working, producer.possible, producer.outside
 
 
-def low_powers(rng, sheet, producer):
-    producer.working, producer.possible, producer.outside = (spread(rng, sheet.month, 0, TWO_BYTES) for _ in range(3))
+def low_powers(rng, month):
+    return spread(rng, month, 0, TWO_BYTES)
 
 
-def high_powers(rng, sheet, producer):
-    producer.working, producer.possible, producer.outside = (
-        spread(rng, sheet.month, TWO_BYTES + 1, TOP_CAPACITY) for _ in range(3))
+def high_powers(rng, month):
+    return spread(rng, month, TWO_BYTES + 1, TOP_CAPACITY)
 
 
-def some_high_powers(rng, sheet, producer):
-    low_powers(rng, sheet, producer)
-    for powers in powers_of(producer):
-        for hour in rng.sample(range(len(powers)), rng.choice((1, 5, 100))):
-            powers[hour] = rng.randrange(TWO_BYTES + 1, TOP_CAPACITY + 1)
+def some_high_powers(rng, month):
+    powers = low_powers(rng, month)
+    for hour in rng.sample(range(len(powers)), rng.choice((1, 5, 100))):
+        powers[hour] = rng.randrange(TWO_BYTES + 1, TOP_CAPACITY + 1)
+    return powers
 
 
 AMONG = {"low": low_powers, "some_high": some_high_powers, "high": high_powers}
@@ -46,7 +45,7 @@ def sheet_with(among, figure):
     def draw(rng):
         sheet = draw_sheet(rng, rng.randrange(1, 3), rng.randrange(1, 4), rng.randrange(3))
         for producer in sheet.producers:
-            AMONG[among](rng, sheet, producer)
+            producer.working, producer.possible, producer.outside = (AMONG[among](rng, sheet.month) for _ in range(3))
         for _ in range(1 if figure > TOP_CAPACITY else rng.choice((1, 2, 50))):
             powers = rng.choice(powers_of(rng.choice(sheet.producers)))
             powers[draw_hour(rng, len(powers))] = figure

@@ -12,8 +12,8 @@ ROOT = Path(__file__).resolve().parent.parent
 OUT = ROOT / "target" / "compare"
 ARCHIVE = ROOT / "target" / "staticlib" / "libcapacity.a"
 RIVAL = ROOT / "target" / "rival" / "rival"
-MODULE = OUT / "module"          # settles sheets by the module
-TRANSFERS = OUT / "transfers"    # applies lists of transfers by it
+MODULE = OUT / "module"      # settles sheets by the module
+CHANGED = OUT / "changed"    # changes them by its other entries
 
 LONGEST_WAIT = 300  # seconds
 
@@ -68,7 +68,7 @@ def build_module(archive):
     if not Path(archive).is_file():
         raise Trouble(f"there is no archive {archive}; make it with: rt staticlib capacity")
     make_folder(OUT)
-    for driver in (MODULE, TRANSFERS):
+    for driver in (MODULE, CHANGED):
         build_driver(driver, archive)
 
 
@@ -99,8 +99,9 @@ def case_bytes(sheet, buffer):
     return struct.pack(">2I", len(sheet), buffer) + sheet
 
 
-def list_case_bytes(sheet, transfers):
-    return struct.pack(">2I", len(sheet), len(transfers)) + sheet + transfers
+def list_case_bytes(sheet, given):
+    """A sheet with a list of transfers, or with a complex's record."""
+    return struct.pack(">2I", len(sheet), len(given)) + sheet + given
 
 
 def write_cases(path, cases):
@@ -128,14 +129,14 @@ def read_answers(path, count):
 
 
 def stored_lists(content):
-    """Each stored sheet, its list, and the answer: the sheet afterwards, or the refusal's number."""
+    """Each stored sheet, its list or record, and the answer: the sheet afterwards, or the refusal's number."""
     place = 0
     while place < len(content):
-        length, listed, refused, number = struct.unpack_from(">2IBI", content, place)
+        length, beside, refused, number = struct.unpack_from(">2IBI", content, place)
         place += 13
-        sheet, packed = content[place:place + length], content[place + length:place + length + listed]
-        place += length + listed
-        yield sheet, packed, number if refused else content[place:place + length]
+        sheet, given = content[place:place + length], content[place + length:place + length + beside]
+        place += length + beside
+        yield sheet, given, number if refused else content[place:place + length]
         place += length
 
 

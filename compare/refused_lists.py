@@ -6,14 +6,14 @@ A corner draws a sheet and a list; either may be bytes, where it is damaged.
 from functools import wraps
 
 import refused
-from applied_lists import Turns, filing_day, sheet_of, sheet_with, some_entries, some_sheet, volumes_of
+from applied_lists import (Turns, filing_day, sheet_of, sheet_with, so_many_entries, some_entries, some_sheet,
+                           volumes_of)
 from drawing import capacity
 from records import ENTRY, FRONT, MOST_CONSUMERS, TOP_CAPACITY, Sheet, Transfer
-from refusals import BAD_LIST, BUFFER_NUMBER, FILED_LATE, LAST_DAY, LAST_FILING_DAY, OVERDRAWN, TRIED, TRIED_IN_LIST
+from refusals import BAD_LIST, FILED_LATE, LAST_DAY, LAST_FILING_DAY, OVERDRAWN, TRIED_IN_LIST
 from refused import LARGEST_4
+from refused_changes import OF_SHEET, damaged_kinds, refused_sheets
 from transfer_lists import TransferList
-
-OF_SHEET = tuple(number for number in TRIED if number != BUFFER_NUMBER)
 
 # ------------------------------------------------------------------ 13: the list's form
 
@@ -345,34 +345,11 @@ SEVERAL_RULES[f"{FILED_LATE}_and_{OVERDRAWN}"] = list_with_both(entry_behind(lat
 # ------------------------------------------------------------------ damaged lists and sheets
 
 
-def one_byte_changed(rng, content):
-    content[rng.randrange(len(content))] = rng.choice((0, 1, 31, 32, 127, 128, 255, rng.randrange(256)))
-
-
-def one_bit_changed(rng, content):
-    content[rng.randrange(len(content))] ^= 1 << rng.randrange(8)
-
-
 def any_entries(rng, content):
     """A true front, and any bytes after it."""
     count = ENTRY * rng.randrange(1, 20)
     content[:] = TransferList([], surplus=rng.getrandbits(8 * count).to_bytes(count, "big")).to_bytes()
 
 
-DAMAGES = (one_byte_changed, one_bit_changed, any_entries, refused.cut_short, refused.lengthened,
-           refused.any_bytes, refused.all_noughts, refused.all_ones, refused.empty)
-
-
-def damaged_list(damage):
-    def draw(rng):
-        sheet = some_sheet(rng)
-        content = bytearray(some_entries(rng, volumes_of(sheet)).list().to_bytes())
-        damage(rng, content)
-        return sheet, bytes(content)
-    return draw
-
-
-DAMAGED = {damage.__name__: damaged_list(damage) for damage in DAMAGES}
-DAMAGED.update((f"sheet_{name}", good_list(draw)) for name, draw in refused.DAMAGED.items())
-REFUSED_SHEETS = {number: {name: good_list(draw) for name, draw in refused.REFUSALS[number].items()}
-                  for number in OF_SHEET}
+DAMAGED = damaged_kinds([any_entries], so_many_entries(1, 5), good_list)
+REFUSED_SHEETS = refused_sheets(good_list)

@@ -1,5 +1,5 @@
 /*
- * What the two drivers of the module share (module.c and transfers.c): buffers between pages without access, files of
+ * What the two drivers of the module share (module.c and changed.c): buffers between pages without access, files of
  * cases, and how a broken promise is told.
  *
  * A buffer ends where a page without access begins, and the page before its first one has no access either. The bytes

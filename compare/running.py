@@ -1,17 +1,18 @@
 """Both programs over the same cases: they must agree, and a difference is told with all that is needed to repeat it.
 
-A SheetRun settles sheets, a ListRun applies lists of transfers to sheets. What must hold of each answer by itself is
-checked here too.
+A SheetRun settles sheets, a ListRun applies lists of transfers to sheets, a RecordRun writes complexes' peaks into
+them. What must hold of each answer by itself is checked here too.
 """
 import re
 from pathlib import Path
 
 import list_cases
 import programs
+import record_cases
 import sheets
 import transfer_lists
+from complex_records import peak_place
 from records import field_at, result_figures, row_volumes
-
 
 CHUNK = 500  # cases that the programs are given at a time
 
@@ -28,6 +29,7 @@ class Run:
     """One set of cases, answered by both programs in chunks. Its files are kept only in a folder that was asked for."""
 
     answer_command, marks_command = None, None    # the rival's
+    driver = ()                                   # the module's: a program, with a word if it has several entries
 
     def __init__(self, name, seed, folder, keep):
         self.name, self.seed, self.folder, self.keep = name, seed, Path(folder), keep
@@ -36,14 +38,16 @@ class Run:
         """The answers on which both programs agree, and the rival's marks."""
         files = {part: self.folder / f"{self.name}-{start:06}.{part}" for part in ("cases", "rival", "module", "marks")}
         programs.write_cases(files["cases"], cases)
-        for part, words in (("rival", [programs.RIVAL, self.answer_command, files["cases"], files["rival"]]),
-                            ("marks", [programs.RIVAL, self.marks_command, files["cases"], files["marks"]]),
-                            ("module", [self.driver(), files["cases"], files["module"], start])):
-            status, printed = programs.run_program(words)
+
+        def run(program, part, *words):
+            status, printed = programs.run_program([*program, files["cases"], files[part], *words])
             if status != 0:
                 self.stopped(part, status, printed, start, cases)
+        run([programs.RIVAL, self.answer_command], "rival")
+        run(self.driver, "module", start)
         by_rival, by_module = (programs.read_answers(files[part], len(cases)) for part in ("rival", "module"))
         self.compare(start, cases, by_rival, by_module)
+        run([programs.RIVAL, self.marks_command], "marks")
         marks = files["marks"].read_text().splitlines()
         if len(marks) != len(cases):
             raise programs.Trouble(f"{files['marks']} does not hold the marks of {len(cases)} cases")
@@ -103,9 +107,7 @@ class Run:
 
 class SheetRun(Run):
     answer_command, marks_command = "batch", "marks"
-
-    def driver(self):
-        return programs.MODULE
+    driver = programs.MODULE,
 
     def intended_refusal(self, kind):
         return sheets.intended_refusal(kind)
@@ -126,22 +128,27 @@ class SheetRun(Run):
         return ""
 
 
-class ListRun(Run):
-    answer_command, marks_command = "transfers", "transfermarks"
+class ChangeRun(Run):
+    """Sheets that are changed by a second buffer."""
 
-    def driver(self):
-        return programs.TRANSFERS
+    kinds = None    # of the cases
 
     def intended_refusal(self, kind):
-        return list_cases.intended_refusal(kind)
+        return self.kinds.intended_refusal(kind)
 
     def field_at(self, case, place):
         return transfer_lists.field_at(case.sheet, place)
 
     def beside(self, saved, case):
-        file = saved.with_suffix(".list")
-        programs.write_file(file, case.list)
-        return f"list: {file} ({len(case.list)} bytes)"
+        file = saved.with_suffix(f".{self.kinds.given}")
+        programs.write_file(file, case.given)
+        return f"{self.kinds.given}: {file} ({len(case.given)} bytes)"
+
+
+class ListRun(ChangeRun):
+    answer_command, marks_command = "transfers", "transfermarks"
+    driver = programs.CHANGED, "transfer"
+    kinds = list_cases.KINDS
 
     def wrong_in(self, case, after):
         """The sum of contract volumes is the same, and no other byte is touched."""
@@ -151,3 +158,15 @@ class ListRun(Run):
         if transfer_lists.with_contract_volumes(case.sheet, moved) != after:
             return "another byte than those of the contract volumes has changed"
         return ""
+
+
+class RecordRun(ChangeRun):
+    answer_command, marks_command = "averages", "averagemarks"
+    driver = programs.CHANGED, "average"
+    kinds = record_cases.KINDS
+
+    def wrong_in(self, case, after):
+        """No byte is touched but the four of that consumer's peak."""
+        peak, wanted = peak_place(case.sheet, case.given), bytearray(case.sheet)
+        wanted[peak] = after[peak]
+        return "" if wanted == after else "another byte than those of that consumer's peak has changed"

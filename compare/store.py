@@ -7,7 +7,8 @@ OUTDIR/GROUP holds cases one after another: sheet length (4 bytes, highest first
 kind of answer (1: 0 result, 1 refusal), byte count or refusal number (4), the sheet, for kind 0 the result.
 OUTDIR/transfers holds sheets with lists of transfers: sheet length (4), list length (4), kind of answer (1: 0 done,
 1 refusal), byte count 0 or refusal number (4), the sheet, the list, and the sheet afterwards, which after a refusal is
-the sheet again. FILE gets a line for each file of sheets, its name and its count of cases, in a fixed order.
+the sheet again. OUTDIR/averages holds sheets with a complex's record in the same way. FILE gets a line for each file of
+sheets to be settled, its name and its count of cases, in a fixed order.
 """
 import argparse
 import random
@@ -20,13 +21,14 @@ sys.dont_write_bytecode = True
 
 import list_cases
 import programs
+import record_cases
 import sheets
 from bands import EDGES
 from programs import Trouble
 
 SEED = 152
 LONGEST_SHEET = 65_000
-MOST_BYTES = 1_600_000
+MOST_BYTES = 1_700_000
 DRAWS = 40
 
 # A sheet with one producer of 28 days, up to a few rows and consumers; a sheet without producers.
@@ -70,7 +72,7 @@ LEFT_OUT = {f"bands_of_k1/{side}_{edge}" for side in ("exact", "exact_next") for
 MONTHS_STORED = 28  # all months once, each with the next form of holidays
 
 # Sheets with a list, each kind once: lists that are applied, every cause of 13 to 15, the order of the numbers.
-SHORT_PAIR = 130    # sheet and list in bytes, if the kind allows it
+SHORT_LIST = 130    # sheet and list in bytes, if the kind allows it
 LISTS = (
     "applied/no_entries", "applied/all_given_and_taker_filled", "applied/given_on", "applied/repeated",
     "long/behind_producers",
@@ -78,6 +80,19 @@ LISTS = (
     "list_13/day_0", "list_13/day_32", "list_13/giver_next", "list_13/taker_next", "list_13/one_consumer_twice",
     "list_14/day_21", "list_15/one_more_than_the_giver_has", "list_15/taker_one_above", "list_15/emptied_before",
     "several_rules/12_and_13", "several_rules/13_version_and_14", "several_rules/14_and_15",
+)
+
+# The same of sheets with a complex's record, which is long where it is taken or 17 is tried.
+SHORT_RECORD = 5_600
+RECORDS = (
+    "taken/rest_half", "taken/imported_one_below", "taken/imported_equal", "taken/imported_one_above",
+    "taken/half_above_imported", "taken/one_more_sent_than_drawn", "taken/hour_16_singled_out",
+    "taken/hour_23_singled_out", "taken/weekends_singled_out", "taken/all_holidays", "taken/highest_peak",
+    "taken/last_of_32", "months/days_29_weekday_7_first_and_last_day", "months/days_30_weekday_6_some_holidays",
+    "months/days_31_weekday_1_no_holiday", "long/behind_producers",
+    "record_16/eight_bytes", "record_16/a_byte_lost", "record_16/another_month", "record_16/consumer_next",
+    "record_17/imported_next", "record_17/drawn_first_hour", "record_17/sent_last_hour",
+    "several_rules/12_and_16_eight_bytes", "several_rules/16_consumer_next_and_17",
 )
 
 
@@ -105,9 +120,8 @@ def stored_cases(group):
     return [case for case in cases if len(case.sheet) <= LONGEST_SHEET]
 
 
-def stored_lists():
-    return [draw_stored(list_cases.draw_case, f"{SEED}/transfers/{kind}", SHORT_PAIR, *kind.split("/"))
-            for kind in LISTS]
+# The files of sheets that an entry changes: the kinds of its cases, those that are stored, the length if it can be.
+CHANGED = {"transfers": (list_cases.KINDS, LISTS, SHORT_LIST), "averages": (record_cases.KINDS, RECORDS, SHORT_RECORD)}
 
 
 def check_intended(cases, answers, intended_refusal):
@@ -124,11 +138,11 @@ def stored_bytes(case, answer):
     return front + case.sheet + (b"" if refused else answer)
 
 
-def stored_list_bytes(case, answer):
-    """A list that is applied is answered with byte count 0. The sheet afterwards stands there in any case."""
+def stored_change_bytes(case, answer):
+    """Where the sheet is changed, the answer is byte count 0. The sheet afterwards stands there in any case."""
     refused = isinstance(answer, int)
-    front = struct.pack(">2IBI", len(case.sheet), len(case.list), refused, answer if refused else 0)
-    return front + case.sheet + case.list + (case.sheet if refused else answer)
+    front = struct.pack(">2IBI", len(case.sheet), len(case.given), refused, answer if refused else 0)
+    return front + case.sheet + case.given + (case.sheet if refused else answer)
 
 
 def read_options():
@@ -149,11 +163,13 @@ def answered_sheets(group, folder):
     return list(map(stored_bytes, cases, answers))
 
 
-def answered_lists(folder):
-    cases = stored_lists()
-    answers = programs.rival_answers(cases, folder, "transfers")
-    check_intended(cases, answers, list_cases.intended_refusal)
-    return list(map(stored_list_bytes, cases, answers))
+def answered_changes(file, folder):
+    """The stored cases of a file of sheets that are changed, each in bytes. The rival's command has the file's name."""
+    kinds, stored, length = CHANGED[file]
+    cases = [draw_stored(kinds.draw_case, f"{SEED}/{file}/{kind}", length, *kind.split("/")) for kind in stored]
+    answers = programs.rival_answers(cases, folder, file)
+    check_intended(cases, answers, kinds.intended_refusal)
+    return list(map(stored_change_bytes, cases, answers))
 
 
 def main():
@@ -162,7 +178,7 @@ def main():
     programs.make_folder(programs.OUT)
     with tempfile.TemporaryDirectory(dir=programs.OUT) as folder:
         files = {group: answered_sheets(group, folder) for group in PLAN}
-        files["transfers"] = answered_lists(folder)
+        files.update((file, answered_changes(file, folder)) for file in CHANGED)
     total = sum(len(each) for stored in files.values() for each in stored)
     if total >= MOST_BYTES:
         raise Trouble(f"the stored cases take {total} bytes, which is not below {MOST_BYTES}")

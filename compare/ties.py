@@ -6,8 +6,8 @@ from array import array
 from math import gcd
 
 from bands import k1_sheet
-from drawing import (draw_month, draw_price, flat, full_producer, in_parts, one_row_sheet, plain_consumer, set_average,
-                     spread)
+from drawing import (draw_month, draw_price, flat, full_producer, in_parts, one_row_sheet, plain_consumer, spread,
+                     with_average)
 from records import ONE, SINGLE_BUYER, TOP_CAPACITY, TOP_PRICE, TOP_Z, Row, Sheet
 
 # No half can occur in k2 and k5: a half millionth asks that 24 × days has a power of 2 one higher than a million has,
@@ -39,7 +39,7 @@ def tie_average(rng):
     producer = full_producer(month)
     excess = rng.randrange(10, 5000)
     producer.deductible = excess * rng.choice((0, 1, 2, 3, 4, 8))
-    set_average(rng, month, producer, producer.deductible + excess, len(month.control_hours()) // 2)
+    producer.outside = with_average(rng, month, producer.deductible + excess, len(month.control_hours()) // 2)
     return one_row_sheet(rng, month, producer, rng.randrange(4 * excess, TOP_CAPACITY))
 
 
@@ -64,7 +64,7 @@ def tie_k1(rng):
     excess, support = unit * odd, unit * (256 if n == 20 else 64)
     producer = full_producer(month)
     producer.deductible = excess * rng.choice(times)
-    set_average(rng, month, producer, producer.deductible + excess)
+    producer.outside = with_average(rng, month, producer.deductible + excess)
     k1 = ONE - 100_000 * n * excess // support  # the penalty rounded down, so k1 upward
     rows = [Row(0, SINGLE_BUYER, part, draw_price(rng)) for part in in_parts(rng, support)]
     rows.append(Row(0, 0, telling_volume(rng, k1), draw_price(rng)))
@@ -145,7 +145,7 @@ def set_half(rng, sheet, number):
     month, producer = sheet.month, sheet.producers[0]
     if number == 1:  # 2 × D is half of T
         use = rng.randrange(1, 2000)
-        set_average(rng, month, producer, use)
+        producer.outside = with_average(rng, month, use)
         sheet.rows.append(Row(0, SINGLE_BUYER, 4 * use, draw_price(rng)))
     elif number == 2:
         producer.missing[rng.randrange(2)] = month.hours // 2

@@ -1,14 +1,13 @@
-"""The second half of a run: both programs apply lists of transfers to sheets, and the sheets that come out are settled.
+"""The second part of a run: both programs apply lists of transfers to sheets, and the sheets that come out are settled.
 
 Of every list that is applied, beside what ListRun checks: the sheet is accepted before and after, with the same room.
 And of pairs of sheets as in demand 3: one list gets the same answer from both, and demand 3 holds of them afterwards.
 """
 import list_cases
-import sheets
-from coverage import Coverage
+from change_cases import ChangeCase
+from change_run import compare_cases, exact_case
 from demand_3 import check_pairs, moved_in
-from records import result_length
-from refused_lists import OF_SHEET
+from refused_changes import OF_SHEET
 from running import CHUNK, ListRun, SheetRun, answer_text
 from transfer_lists import contract_volumes
 
@@ -21,43 +20,6 @@ MARKS = {
     "applied": ["done", "entries0", "entries1", "entriesmany", "day1", "day20", "amount0", "takerfull", "giverempty",
                 "chain", "repeated"],
 }
-
-# ------------------------------------------------------------------ lists and their coverage
-
-
-def exact_case(kind, sheet):
-    """A sheet to be settled into just as much room as its result needs."""
-    return sheets.Case(kind, sheet, result_length(sheet[12], sheet[13]))
-
-
-def settle_applied(run, start, cases, answers):
-    """Each sheet that a list was applied to, before and after it: both are to be accepted with the same room."""
-    settled = []
-    for case, after in zip(cases, answers):
-        if isinstance(after, bytes):
-            settled += exact_case("list/before", case.sheet), exact_case("list/after", after)
-    run.answers(start, settled)
-    return len(settled) // 2
-
-
-def compare_lists(run, settling, count):
-    coverage, applied = Coverage(MARKS, list_cases.GROUPS), 0
-    for start in range(0, count, CHUNK):
-        cases = list(list_cases.cases(run.seed, min(CHUNK, count - start), start))
-        answers, marks = run.answers(start, cases)
-        coverage.add(cases, marks)
-        applied += settle_applied(settling, 2 * applied, cases, answers)
-    print(f"lists: {applied} of {count} applied; the sum of contract volumes kept, the sheet accepted in the same room")
-    return coverage
-
-
-def print_coverage(coverage):
-    print("coverage, in lists:")
-    coverage.print_marks()
-    coverage.print_kinds("causes of refusals", ("sheet_", "list_"))
-    coverage.print_kinds("two numbers at once", "several_rules/")
-    coverage.print_kinds("all kinds")
-
 
 # ------------------------------------------------------------------ demand 3
 
@@ -87,7 +49,7 @@ def compare_pairs(run, settling, count):
     moved = changed = 0
     for start in range(0, count, CHUNK):
         pairs = list_cases.pairs(run.seed, min(CHUNK, count - start), start)
-        cases = [list_cases.ListCase(pair.kind, sheet, pair.list)
+        cases = [ChangeCase(pair.kind, sheet, pair.list)
                  for pair in pairs for sheet in (pair.first, pair.second)]
         answers, _ = run.answers(2 * start, cases)
         check_same_answer(run, 2 * start, cases, answers)
@@ -111,9 +73,8 @@ def changed_in(changed, count):
 def compare_transfers(options, folder):
     """Gives the words of what failed without being a difference, or none."""
     where = options.seed, folder, options.keep
-    coverage = compare_lists(ListRun("list", *where), SheetRun("list-sheet", *where), options.lists)
-    print_coverage(coverage)
-    failed = coverage.failure(options.lists, "lists")
+    failed = compare_cases(ListRun("list", *where), SheetRun("list-sheet", *where), options.lists, MARKS,
+                           "applied; the sum of contract volumes kept")
     if failed:
         return failed
     count = options.list_pairs

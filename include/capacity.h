@@ -3,13 +3,14 @@
  *
  * capacity_settle     settles a month's sheet into a result
  * capacity_transfer   applies a list of transfers to the contract volumes in a sheet, before it is settled
+ * capacity_average    writes the peak of an industrial complex, by averaging, into a sheet, before it is settled
  *
  * Buffers. The caller owns them. A call takes two: it reads the one declared const and writes to the other, which for
- * capacity_transfer is the sheet itself. It keeps neither pointer after it returns. Nothing is allocated, and no state
- * is kept from one call to the next. Each pointer is to lead to as many bytes as the length after it says and may not
- * be null; the two buffers must not overlap.
+ * capacity_transfer and capacity_average is the sheet itself. It keeps neither pointer after it returns. Nothing is
+ * allocated, and no state is kept from one call to the next. Each pointer is to lead to as many bytes as the length
+ * after it says and may not be null; the two buffers must not overlap.
  *
- * Sheet, result and list are laid out as docs/RULES.md says: every field unsigned, big-endian, no padding.
+ * Sheet, result, list and record are laid out as docs/RULES.md says: every field unsigned, big-endian, no padding.
  */
 #ifndef CAPACITY_H
 #define CAPACITY_H
@@ -32,8 +33,16 @@ extern "C" {
 #define CAPACITY_LIST_ENTRY 7
 
 /*
+ * The record of an industrial complex, in bytes: its front (length, consumer and imported power), and each hour of the
+ * month. The longest has 31 days.
+ */
+#define CAPACITY_RECORD_FRONT 9
+#define CAPACITY_RECORD_HOUR 8
+#define CAPACITY_LARGEST_RECORD 5961
+
+/*
  * The refusals: an answer of -CAPACITY_NO_HEADER and so on. They are tried in this order; docs/RULES.md has each cause.
- * capacity_settle tries 1 to 12, capacity_transfer 1 to 6 and 8 to 15.
+ * capacity_settle tries 1 to 12, capacity_transfer 1 to 6 and 8 to 15, capacity_average 1 to 6, 8 to 12, 16 and 17.
  */
 enum capacity_refusal {
     CAPACITY_NO_HEADER = 1,       /* fewer than 14 bytes */
@@ -50,7 +59,9 @@ enum capacity_refusal {
     CAPACITY_BAD_FACTOR = 12,     /* mining days or z */
     CAPACITY_BAD_LIST = 13,       /* the list's length, version, a day of no month, a giver or taker */
     CAPACITY_FILED_LATE = 14,     /* an entry filed after day 20 */
-    CAPACITY_OVERDRAWN = 15       /* at its turn, an entry asks more than the giver has or the taker may have */
+    CAPACITY_OVERDRAWN = 15,      /* at its turn, an entry asks more than the giver has or the taker may have */
+    CAPACITY_BAD_RECORD = 16,     /* the record's length, for its bytes or for the month, or its consumer */
+    CAPACITY_HIGH_POWER = 17      /* a power in the record, imported power too */
 };
 
 /*
@@ -79,6 +90,20 @@ int64_t capacity_settle(const uint8_t *sheet, size_t sheet_length, uint8_t *resu
  * is applied again: the module keeps no record of the lists that a sheet has seen.
  */
 int64_t capacity_transfer(uint8_t *sheet, size_t sheet_length, const uint8_t *list, size_t list_length);
+
+/*
+ * Takes the peak of one industrial complex by averaging and writes it into the sheet, as the peak of the consumer that
+ * the record names. A month with several complexes has a record and a call for each.
+ *
+ * If the answer is 0, the peak was written: those four bytes of the sheet are the new peak, and every other byte keeps
+ * what it had. The sheet is then settled as any other.
+ *
+ * If it is below 0, sheet or record is turned down: the answer is minus the refusal's number. Every byte of the sheet
+ * keeps what it had.
+ *
+ * The answer is never above 0. Any bytes may be handed over as a sheet and as a record.
+ */
+int64_t capacity_average(uint8_t *sheet, size_t sheet_length, const uint8_t *record, size_t record_length);
 
 /*
  * Reading a result. The counts of rows and consumers are the sheet's, at places 12 and 13 of its header; what is read is

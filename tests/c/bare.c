@@ -1,6 +1,7 @@
 /*
- * Settles the example sheet, and applies the example list, in a program that has no C library. The archive needs memcpy
- * and memset, which stand here. The status is 0 if answers, result and sheet are right. Linux on x86-64.
+ * Settles the example sheet, applies the example list, and takes the example complex's peak, in a program that has no C
+ * library. The archive needs memcpy and memset, which stand here. The status is 0 if answers, result and sheets are
+ * right. Linux on x86-64.
  */
 #include "capacity.h"
 #include "example.h"
@@ -50,6 +51,14 @@ static int applies_list(void)
     return capacity_transfer(lent, sizeof lent, list, sizeof list) == 0 && same(lent, members_after, sizeof lent);
 }
 
+static int takes_peak(void)
+{
+    uint8_t lent[sizeof members], record[RECORD];
+    memcpy(lent, members_unmeasured, sizeof lent);
+    fill_record(record);
+    return capacity_average(lent, sizeof lent, record, sizeof record) == 0 && same(lent, members_after, sizeof lent);
+}
+
 static void leave(long status)
 {
     __asm__ volatile("syscall" : : "a"((long)EXIT_CALL), "D"(status) : "rcx", "r11", "memory");
@@ -60,5 +69,5 @@ __attribute__((force_align_arg_pointer)) void _start(void);
 
 void _start(void)
 {
-    leave(settles_example() && applies_list() ? 0 : 1);
+    leave(settles_example() && applies_list() && takes_peak() ? 0 : 1);
 }

@@ -1,6 +1,6 @@
 /*
- * Settles document 01's example sheet through the C entries, and applies a list of transfers to another. Every byte of
- * a buffer that a call may write to is checked afterwards.
+ * Settles document 01's example sheet through the C entries, applies a list of transfers to another, and writes a
+ * complex's peak into that. Every byte of a buffer that a call may write to is checked afterwards.
  */
 #include <stdio.h>
 #include <string.h>
@@ -72,10 +72,15 @@ static void check_no_bytes(void)
 /* A sheet to be changed in place, with a byte before it and one behind it. */
 static uint8_t lent[1 + sizeof members + 1];
 
-static int64_t transfer(size_t sheet_length, const uint8_t *transfers, size_t list_length)
+static void lend(const uint8_t *from)
 {
     memset(lent, UNTOUCHED, sizeof lent);
-    memcpy(lent + 1, members, sizeof members);
+    memcpy(lent + 1, from, sizeof members);
+}
+
+static int64_t transfer(size_t sheet_length, const uint8_t *transfers, size_t list_length)
+{
+    lend(members);
     return capacity_transfer(lent + 1, sheet_length, transfers, list_length);
 }
 
@@ -91,21 +96,27 @@ static void expect_consumer(const uint8_t *result, size_t consumer, uint64_t vol
 {
     struct capacity_consumer_line line = capacity_read_consumer(result, 0, consumer);
     if (line.volume != volume || line.charge != charge) {
-        printf("C example: consumer %zu after the list: volume %llu, charge %llu\n", consumer,
+        printf("C example: consumer %zu of the changed sheet: volume %llu, charge %llu\n", consumer,
                (unsigned long long)line.volume, (unsigned long long)line.charge);
         wrong = 1;
     }
 }
 
-/* The list is applied in place, and the sheet settled with the new contract volumes. */
-static void check_applied_and_settled(void)
+/* The changed sheet is settled with both contract volumes of 100.0 and peaks of 126.0 and 105.0. */
+static void expect_settled(const char *what)
 {
     uint8_t result[CAPACITY_LARGEST_RESULT];
-    expect_answer("list", transfer(sizeof members, list, sizeof list), 0);
-    expect_lent("list", members_after);
-    expect_answer("sheet after the list", capacity_settle(lent + 1, sizeof members, result, sizeof result), 71);
+    expect_lent(what, members_after);
+    expect_answer(what, capacity_settle(lent + 1, sizeof members, result, sizeof result), 71);
     expect_consumer(result, 0, 1240, 12400000);
     expect_consumer(result, 1, 1000, 10000000);
+}
+
+/* The list is applied in place. */
+static void check_applied_and_settled(void)
+{
+    expect_answer("list", transfer(sizeof members, list, sizeof list), 0);
+    expect_settled("sheet after the list");
 }
 
 /* A list of no entries changes nothing. */
@@ -163,6 +174,49 @@ static void check_bad_sheet_first(void)
     expect_lent("sheet and list of no bytes", members);
 }
 
+/* ---------------------------------------------------------------- a complex */
+
+static uint8_t complex_record[RECORD];
+
+static int64_t average(size_t sheet_length, size_t record_length)
+{
+    lend(members_unmeasured);
+    return capacity_average(lent + 1, sheet_length, complex_record, record_length);
+}
+
+/* The peak is written in place. */
+static void check_taken_and_settled(void)
+{
+    fill_record(complex_record);
+    expect_answer("record", average(sizeof members, RECORD), 0);
+    expect_settled("sheet with the complex's peak");
+}
+
+/* The record with one byte changed is turned down, and the sheet keeps every byte. */
+static void check_changed_record(const char *what, size_t at, uint8_t byte, int64_t wanted)
+{
+    fill_record(complex_record);
+    complex_record[at] = byte;
+    expect_answer(what, average(sizeof members, RECORD), wanted);
+    expect_lent(what, members_unmeasured);
+}
+
+static void check_bad_records(void)
+{
+    check_changed_record("length field one more", 3, RECORD % 256 + 1, -CAPACITY_BAD_RECORD);
+    check_changed_record("consumer 2 of 2", 4, 2, -CAPACITY_BAD_RECORD);
+    check_changed_record("13,127.2 MW imported", 6, 2, -CAPACITY_HIGH_POWER);
+    check_changed_record("13,283.2 MW drawn in the first hour", 10, 2, -CAPACITY_HIGH_POWER);
+    check_changed_record("13,137.2 MW sent out in the last hour", RECORD - 3, 2, -CAPACITY_HIGH_POWER);
+    fill_record(complex_record);
+    expect_answer("record of a byte less", average(sizeof members, RECORD - 1), -CAPACITY_BAD_RECORD);
+    expect_lent("record of a byte less", members_unmeasured);
+    expect_answer("record of no bytes", average(sizeof members, 0), -CAPACITY_BAD_RECORD);
+    expect_lent("record of no bytes", members_unmeasured);
+    expect_answer("sheet of 43 bytes, no record", average(sizeof members - 1, 0), -CAPACITY_WRONG_LENGTH);
+    expect_lent("sheet of 43 bytes, no record", members_unmeasured);
+}
+
 int main(void)
 {
     check_accepted();
@@ -174,6 +228,8 @@ int main(void)
     check_bad_lists();
     check_second_unmet();
     check_bad_sheet_first();
+    check_taken_and_settled();
+    check_bad_records();
     if (wrong)
         return 1;
     puts("C example: ok");

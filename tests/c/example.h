@@ -1,8 +1,10 @@
-/* Document 01's example sheet and its result; two consumers, a transfer between them, and what comes of it. */
+/* Document 01's example sheet and its result; two consumers, a transfer between them, what comes of it; a complex. */
 #ifndef EXAMPLE_H
 #define EXAMPLE_H
 
 #include <stdint.h>
+
+#include "capacity.h"
 
 /* One consumer: contract volume 100.0, peak 126.0, no mining days, z 1.0, price 100,000 tiyn; 30 days. */
 static const uint8_t sheet[29] = {
@@ -40,5 +42,23 @@ static const uint8_t members_after[44] = {
     0, 0, 3, 232, 0, 0, 4, 236, 0, 0, 10, 0, 1, 134, 160,
     0, 0, 3, 232, 0, 0, 4, 26, 0, 0, 10, 0, 1, 134, 160,
 };
+
+/* That sheet before the peak of consumer 0 was taken: 10,000.0 stands there. */
+static const uint8_t members_unmeasured[44] = {
+    0, 0, 0, 44, 1, 30, 1, 0, 0, 0, 0, 0, 0, 2,
+    0, 0, 3, 232, 0, 1, 134, 160, 0, 0, 10, 0, 1, 134, 160,
+    0, 0, 3, 232, 0, 0, 4, 26, 0, 0, 10, 0, 1, 134, 160,
+};
+
+/* Consumer 0 as an industrial complex: 176.0 drawn and 30.0 sent out in every hour, 20.0 imported. Its peak: 126.0. */
+enum { RECORD = CAPACITY_RECORD_FRONT + 24 * 30 * CAPACITY_RECORD_HOUR };
+
+static void fill_record(uint8_t record[RECORD])
+{
+    static const uint8_t front[CAPACITY_RECORD_FRONT] = {0, 0, RECORD / 256, RECORD % 256, 0, 0, 0, 0, 200};
+    static const uint8_t hour[CAPACITY_RECORD_HOUR] = {0, 0, 6, 224, 0, 0, 1, 44};
+    for (int i = 0; i < RECORD; i++)
+        record[i] = i < CAPACITY_RECORD_FRONT ? front[i] : hour[(i - CAPACITY_RECORD_FRONT) % CAPACITY_RECORD_HOUR];
+}
 
 #endif

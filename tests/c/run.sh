@@ -22,11 +22,12 @@ strict() {
     "$@" -pedantic -Wall -Wextra -Werror -Iinclude
 }
 
-# The stored cases: sheets with results, and sheets with lists of transfers.
+# The stored cases: sheets with results, sheets with lists of transfers, and sheets with complexes' records.
 lists=crates/vectors/data/transfers
+records=crates/vectors/data/averages
 sheets=
 for file in crates/vectors/data/*; do
-    [ "$file" = "$lists" ] || sheets="$sheets $file"
+    [ "$file" = "$lists" ] || [ "$file" = "$records" ] || sheets="$sheets $file"
 done
 
 # The header alone, and the example.
@@ -98,4 +99,5 @@ measure() {
 
 measure settle $sheets
 measure transfer "$lists"
+measure average "$records"
 echo "stack: all frames together have $frames bytes"

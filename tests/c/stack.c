@@ -3,6 +3,7 @@
  *
  *   stack settle FILE...        files of stored cases (crates/vectors/data; compare/README.md has their format)
  *   stack transfer FILE...      files of stored lists (crates/vectors/data/transfers)
+ *   stack average FILE...       files of stored records (crates/vectors/data/averages)
  *
  * Each case is answered on a stack of its own that was painted before: bytes that lost the paint were used, the return
  * address among them. That is done with two paints, since a byte written over with itself is not seen. The answer and
@@ -20,9 +21,9 @@
 enum { STACK = 65536, LONGEST = 65536, FRONT = 13 };
 
 struct stored {
-    uint8_t front[FRONT]; /* sheet length (4), length of buffer or list (4), kind (1), count or number (4) */
+    uint8_t front[FRONT]; /* sheet length (4), length of buffer, list or record (4), kind (1), count or number (4) */
     uint8_t sheet[LONGEST];
-    uint8_t list[LONGEST];
+    uint8_t given[LONGEST]; /* the list or record */
     uint8_t told[LONGEST]; /* the result, or the sheet afterwards */
 };
 
@@ -50,7 +51,7 @@ static size_t sheet_length(void)
     return four_bytes(stored.front);
 }
 
-/* The length of the result buffer or of the list. */
+/* The length of the result buffer, of the list or of the record. */
 static size_t second_length(void)
 {
     return four_bytes(stored.front + 4);
@@ -86,9 +87,9 @@ static int64_t call_on_stack(void (*entry)(void), const uint8_t *first, size_t f
 
 struct entry {
     const char *name;
-    int64_t (*call)(void);       /* on the painted stack */
-    size_t (*list_length)(void); /* the bytes that stand behind the sheet in a case */
-    size_t (*written)(void);     /* the bytes of `told`; after the call they must be in `lent` */
+    int64_t (*call)(void);        /* on the painted stack */
+    size_t (*given_length)(void); /* the bytes that stand behind the sheet in a case */
+    size_t (*written)(void);      /* the bytes of `told`; after the call they must be in `lent` */
 };
 
 static int64_t settle(void)
@@ -96,7 +97,7 @@ static int64_t settle(void)
     return call_on_stack((void (*)(void))capacity_settle, stored.sheet, sheet_length(), lent, second_length());
 }
 
-static size_t no_list(void)
+static size_t nothing_given(void)
 {
     return 0;
 }
@@ -106,15 +107,27 @@ static size_t result_length(void)
     return refused() ? 0 : number();
 }
 
-static int64_t transfer(void)
+/* An entry that changes the sheet in place. */
+static int64_t change(void (*entry)(void))
 {
     memcpy(lent, stored.sheet, sheet_length());
-    return call_on_stack((void (*)(void))capacity_transfer, lent, sheet_length(), stored.list, second_length());
+    return call_on_stack(entry, lent, sheet_length(), stored.given, second_length());
+}
+
+static int64_t transfer(void)
+{
+    return change((void (*)(void))capacity_transfer);
+}
+
+static int64_t average(void)
+{
+    return change((void (*)(void))capacity_average);
 }
 
 static const struct entry entries[] = {
-    {"settle", settle, no_list, result_length},
+    {"settle", settle, nothing_given, result_length},
     {"transfer", transfer, second_length, sheet_length},
+    {"average", average, second_length, sheet_length},
 };
 
 static const struct entry *entry_named(const char *name)
@@ -157,7 +170,7 @@ static int next_case(FILE *in, const struct entry *entry, const char *file)
     if (got != FRONT || second_length() > LONGEST)
         stop(2, file, "a case is too long or not whole");
     read_whole(in, stored.sheet, sheet_length(), file);
-    read_whole(in, stored.list, entry->list_length(), file);
+    read_whole(in, stored.given, entry->given_length(), file);
     read_whole(in, stored.told, entry->written(), file);
     return 1;
 }
@@ -172,7 +185,7 @@ int main(int count, char **words)
     size_t cases = 0, longest = 0, used = 0;
     const struct entry *entry = count < 3 ? NULL : entry_named(words[1]);
     if (entry == NULL) {
-        fputs("usage: stack settle FILE...\n       stack transfer FILE...\n", stderr);
+        fputs("usage: stack settle|transfer|average FILE...\n", stderr);
         return 2;
     }
     for (int i = 2; i < count; i++) {
