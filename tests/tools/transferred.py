@@ -9,11 +9,11 @@ import tempfile
 import programs
 import records
 import transfers
-from checks import CHANGES, EXAMPLES, LISTS, ROOT, check, files_in, report, run, turned_down, words_of
+from checks import CHANGES, EXAMPLES, LISTS, RECORDS, ROOT, check, files_in, report, run, turned_down, words_of
 from transfers import Transfer
 
 # Stored cases, in crates/vectors/data, and how many there are (docs/EVIDENCE.md).
-STORED = ((LISTS, "transfers", 21),)
+STORED = ((LISTS, "transfers", 21), (RECORDS, "averages", 25))
 MONTHS = EXAMPLES / "month.toml", EXAMPLES / "month.sheet"
 CHANGED = (EXAMPLES / "month-transferred.sheet").read_bytes()
 LISTING = (EXAMPLES / "month-transferred.listing").read_text()

@@ -65,7 +65,7 @@ pub fn contract_at(layout: Layout, c: u8) -> usize
 pub fn peak_at(layout: Layout, c: u8) -> usize
     ensures { λ r. ⌜ (r ≡ peakAt layout c) × (r ≤ 20006379) ⌝ }
 {
-    consumer_at(layout, c) + 4
+    contract_at(layout, c) + 4
 }
 
 // The length that version, month and counts ask of the sheet.

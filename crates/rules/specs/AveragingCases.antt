@@ -102,6 +102,8 @@ recordCases =
     ∷ figure (firstOf (recordTests (monthFrom 2 1 0) (day 0 (every 1) (every 0)))) 16
     ∷ figure (firstOf (recordTests (monthFrom 2 1 0) (days 0 (every 1) (every 0)))) 0
     ∷ figure (number (days 0 (every 1) (every 0))) 16
+    -- a month of no days, which no accepted sheet has: 9 + 192 × 0 = 9 bytes, the front alone
+    ∷ figure (firstOf (recordTests (monthFrom 0 1 0) (front 9 1 0))) 0
     -- consumers 2, 3 and 255 of three
     ∷ figure (number (recordOf 201 2 0 24 (every 1) (every 0))) 0
     ∷ figure (number (recordOf 201 3 0 24 (every 1) (every 0))) 16
@@ -115,6 +117,8 @@ recordCases =
     ∷ figure (number (day 0 (every 0) (inHour 17 100001 (every 0)))) 17
     ∷ figure (number (day 0 (every 0) (inHour 0 100001 (every 0)))) 17
     ∷ figure (number (day 0 (every 0) (inHour 23 100001 (every 0)))) 17
+    -- 10,000.1 drawn and 0.1 sent out in one hour: net power, 10,000.0, is at the ceiling, but the power drawn is above it
+    ∷ figure (number (day 0 (inHour 17 100001 (every 0)) (every 1))) 17
     -- the order of the numbers: no such consumer, and 10,000.1 sent out; the front alone, with 10,000.1 imported
     ∷ figure (number (recordOf 201 3 0 24 (every 0) (every 100001))) 16
     ∷ figure (number (front 9 1 100001)) 16
@@ -172,7 +176,9 @@ oneDay = (0 ∷ 0 ∷ 0 ∷ 201 ∷ 1 ∷ 0 ∷ 0 ∷ 0 ∷ 200 ∷ []) ++ joine
 
 -- The sheet of that day with the peak of 50.0 (500 = 256 + 244): it is written for consumer 1, and no other byte changes. (A sheet that is
 -- accepted has 28 days or more, and its record too many bytes to be computed here: the stored records have such cases.)
-pub peak-written : peakWritten (threeConsumers 1 1 (0 ∷ 0 ∷ 0 ∷ 9 ∷ []) 10) oneDay ≡ threeConsumers 1 1 (0 ∷ 0 ∷ 1 ∷ 244 ∷ []) 10
+-- The sheet states version 2, which is not asked here, so that its fifth byte is not the consumer's number too; the peak before is higher,
+-- 6,605.7 (66,057 = 65,536 + 2 × 256 + 9).
+pub peak-written : peakWritten (threeConsumers 2 1 (0 ∷ 1 ∷ 2 ∷ 9 ∷ []) 10) oneDay ≡ threeConsumers 2 1 (0 ∷ 0 ∷ 1 ∷ 244 ∷ []) 10
 unfolding settlement layout averaging
 peak-written = refl
 
