@@ -125,19 +125,19 @@ recordCases =
     ∷ []
 
 -- A consumer whose six figures are 1 to 6, beside two others, with a peak of 7: all else stays.
-abbrev restated : ℕ → Consumer
-restated c = withPeakOf (month 28 1 0 [] [] (consumer 11 12 13 14 15 16 ∷ consumer 1 2 3 4 5 6 ∷ consumer 21 22 23 24 25 26 ∷ [])) 1 7 .consumer c
+abbrev withPeak7 : ℕ → Consumer
+withPeak7 c = withPeakOf (month 28 1 0 [] [] (consumer 11 12 13 14 15 16 ∷ consumer 1 2 3 4 5 6 ∷ consumer 21 22 23 24 25 26 ∷ [])) 1 7 .consumer c
 
-unfoldable pub restatedFigures : List Figure
-restatedFigures =
-    figure (restated 1 .contract) 1
-    ∷ figure (restated 1 .peak) 7
-    ∷ figure (restated 1 .supplier) 3
-    ∷ figure (restated 1 .grid) 4
-    ∷ figure (restated 1 .z) 5
-    ∷ figure (restated 1 .price) 6
-    ∷ figure (restated 0 .peak) 12
-    ∷ figure (restated 2 .peak) 22
+unfoldable pub peakFigures : List Figure
+peakFigures =
+    figure (withPeak7 1 .contract) 1
+    ∷ figure (withPeak7 1 .peak) 7
+    ∷ figure (withPeak7 1 .supplier) 3
+    ∷ figure (withPeak7 1 .grid) 4
+    ∷ figure (withPeak7 1 .z) 5
+    ∷ figure (withPeak7 1 .price) 6
+    ∷ figure (withPeak7 0 .peak) 12
+    ∷ figure (withPeak7 2 .peak) 22
     ∷ []
 
 -- By computation: no peak and no number is wrong.
@@ -149,9 +149,9 @@ pub record-cases : wrong recordCases ≡ []
 unfolding settlement layout averaging recordCases
 record-cases = refl
 
-pub restated-figures : wrong restatedFigures ≡ []
-unfolding settlement restatedFigures
-restated-figures = refl
+pub peak-figures : wrong peakFigures ≡ []
+unfolding settlement peakFigures
+peak-figures = refl
 
 -- A consumer, 15 bytes: contract volume 100.0 (1,000 = 3 × 256 + 232), its peak in four bytes, no mining days, z in tenths, price 0.
 abbrev consumerBytes : List ℕ → ℕ → List ℕ
