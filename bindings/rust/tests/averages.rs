@@ -2,8 +2,10 @@
 //! examples/, and the writer of records.
 mod common;
 
-use capacity::{average, record_length, write_record, Hour, Refusal, LARGEST_RECORD, RECORD_FRONT, RECORD_HOUR};
-use common::{answer_of, changed, settled, EXAMPLE, MEMBERS_AFTER, MEMBERS_UNMEASURED, SETTLED_AFTER, UNTOUCHED};
+use capacity::{average, list_length, record_length, transfer, write_list, write_record, Hour, Refusal, Transfer};
+use capacity::{LARGEST_RECORD, RECORD_FRONT, RECORD_HOUR};
+use common::{answer_of, changed, settled, EXAMPLE, UNTOUCHED};
+use common::{MEMBERS, MEMBERS_AFTER, MEMBERS_UNMEASURED, SETTLED_AFTER};
 
 /// The hours of 30 days.
 const HOURS: usize = 24 * 30;
@@ -71,6 +73,17 @@ fn several_complexes() {
         let after = records.iter().try_fold(before.clone(), |sheet, record| answer_to(&sheet, record));
         assert_eq!(after, Ok(MEMBERS_AFTER.to_vec()));
     }
+}
+
+#[test]
+fn before_or_after_transfers() {
+    let mut buffer = [0; list_length(1)];
+    let list = write_list(&[Transfer { day: 20, giver: 0, taker: 1, amount: 500 }], &mut buffer).unwrap();
+    let before = changed(&MEMBERS, 18, &[0; 4]);
+    let given = answer_of(transfer, &before, list).expect("the list is to be applied");
+    assert_eq!(answer_to(&given, &plain()), Ok(MEMBERS_AFTER.to_vec()));
+    let measured = answer_to(&before, &plain()).expect("the record is to be taken");
+    assert_eq!(answer_of(transfer, &measured, list), Ok(MEMBERS_AFTER.to_vec()));
 }
 
 #[test]

@@ -1,5 +1,5 @@
-//! The stored sheets, lists and records with the rival's answers, crates/vectors/data (compare/README.md has the format):
-//! one after the other, and by several threads at once.
+//! The stored sheets, lists and records with the rival's answers, crates/vectors/data (compare/README.md has the
+//! format): one after the other, and by several threads at once.
 mod common;
 
 use capacity::{average, settle, transfer, Figures};
@@ -16,7 +16,7 @@ struct Case {
     told: Result<Vec<u8>, u8>,
 }
 
-/// The files of lists and of records, which have a form of their own: the entry that takes them, and how many there are.
+/// The files of lists and of records, which have a form of their own: the entry that takes them, how many there are.
 const CHANGES: [(&str, Change, usize); 2] = [("transfers", transfer, 21), ("averages", average, 25)];
 
 struct ChangeCase {

@@ -3,8 +3,8 @@
 
 use capacity::{settle, Figures, Refusal, LARGEST_RESULT};
 
-/// Document 01's example. One consumer: contract volume 100.0, peak 126.0, no mining days, z 1.0, price 100,000 tiyn; 30
-/// days.
+/// Document 01's example, of 30 days. One consumer: contract volume 100.0, peak 126.0, no mining days, z 1.0, price
+/// 100,000 tiyn.
 pub const EXAMPLE: [u8; 29] =
     [0, 0, 0, 29, 1, 30, 1, 0, 0, 0, 0, 0, 0, 1, 0, 0, 3, 232, 0, 0, 4, 236, 0, 0, 10, 0, 1, 134, 160];
 
