@@ -5,12 +5,16 @@
  * capacity_transfer   applies a list of transfers to the contract volumes in a sheet, before it is settled
  * capacity_average    writes the peak of an industrial complex, by averaging, into a sheet, before it is settled
  *
- * Buffers. The caller owns them. A call takes two: it reads the one declared const and writes to the other, which for
- * capacity_transfer and capacity_average is the sheet itself. It keeps neither pointer after it returns. Nothing is
- * allocated, and no state is kept from one call to the next. Each pointer is to lead to as many bytes as the length
- * after it says and may not be null; the two buffers must not overlap.
+ * capacity_transfer and capacity_average change the sheet in place. They may be called in either order, or not at all.
+ *
+ * Buffers. The caller owns them. A call takes two: the one declared const is only read, the other is written to. It
+ * keeps neither pointer after it returns. Nothing is allocated, and no state is kept from one call to the next. Each
+ * pointer is to lead to as many bytes as the length after it says and may not be null; the two buffers must not
+ * overlap.
  *
  * Sheet, result, list and record are laid out as docs/RULES.md says: every field unsigned, big-endian, no padding.
+ * Consumers are counted from 0. What a call needs of stack and processor, and what an interrupt that comes during a
+ * call has to leave alone, is in docs/EMBEDDING.md.
  */
 #ifndef CAPACITY_H
 #define CAPACITY_H
@@ -33,27 +37,31 @@ extern "C" {
 #define CAPACITY_LIST_ENTRY 7
 
 /*
- * The record of an industrial complex, in bytes: its front (length, consumer and imported power), and each hour of the
- * month. The longest has 31 days.
+ * The record of an industrial complex, in bytes: its front (length, consumer and imported power), each of its hours, 24
+ * for every day of the month (power drawn, power sent out), and the longest, of 31 days.
  */
 #define CAPACITY_RECORD_FRONT 9
 #define CAPACITY_RECORD_HOUR 8
 #define CAPACITY_LARGEST_RECORD 5961
 
 /*
- * The refusals: an answer of -CAPACITY_NO_HEADER and so on. They are tried in this order; docs/RULES.md has each cause.
- * capacity_settle tries 1 to 12, capacity_transfer 1 to 6 and 8 to 15, capacity_average 1 to 6, 8 to 12, 16 and 17.
+ * The refusals: an answer of -CAPACITY_NO_HEADER and so on. docs/RULES.md has each cause. An entry tries its own in
+ * this order, and answers with the first that applies:
+ *
+ * capacity_settle      1 to 12
+ * capacity_transfer    1 to 6 and 8 to 12 of the sheet, then 13 to 15 of the list
+ * capacity_average     1 to 6 and 8 to 12 of the sheet, then 16 and 17 of the record
  */
 enum capacity_refusal {
-    CAPACITY_NO_HEADER = 1,       /* fewer than 14 bytes */
-    CAPACITY_WRONG_LENGTH = 2,    /* the length field is not the count of bytes */
-    CAPACITY_OTHER_VERSION = 3,   /* the version is unknown */
+    CAPACITY_NO_HEADER = 1,       /* the sheet has fewer than 14 bytes */
+    CAPACITY_WRONG_LENGTH = 2,    /* its length field is not the count of its bytes */
+    CAPACITY_OTHER_VERSION = 3,   /* its version is unknown */
     CAPACITY_BAD_MONTH = 4,       /* days, weekday or holidays */
     CAPACITY_TOO_MANY = 5,        /* producers, rows or consumers */
-    CAPACITY_LENGTH_OFF = 6,      /* the length does not go with month and counts */
+    CAPACITY_LENGTH_OFF = 6,      /* its length does not go with month and counts */
     CAPACITY_SHORT_BUFFER = 7,    /* the result buffer is shorter than the result */
     CAPACITY_BAD_SHARE = 8,       /* a count of hours or a given coefficient */
-    CAPACITY_HIGH_FIGURE = 9,     /* a capacity, power, volume or peak */
+    CAPACITY_HIGH_FIGURE = 9,     /* a capacity, power, volume or peak above 10,000.0 MW */
     CAPACITY_BAD_REFERENCE = 10,  /* a row's producer or consumer */
     CAPACITY_HIGH_PRICE = 11,     /* a price */
     CAPACITY_BAD_FACTOR = 12,     /* mining days or z */
@@ -61,7 +69,7 @@ enum capacity_refusal {
     CAPACITY_FILED_LATE = 14,     /* an entry filed after day 20 */
     CAPACITY_OVERDRAWN = 15,      /* at its turn, an entry asks more than the giver has or the taker may have */
     CAPACITY_BAD_RECORD = 16,     /* the record's length, for its bytes or for the month, or its consumer */
-    CAPACITY_HIGH_POWER = 17      /* a power in the record, imported power too */
+    CAPACITY_HIGH_POWER = 17      /* a power in the record, imported power too, above 10,000.0 MW */
 };
 
 /*
@@ -78,36 +86,38 @@ enum capacity_refusal {
 int64_t capacity_settle(const uint8_t *sheet, size_t sheet_length, uint8_t *result, size_t result_length);
 
 /*
- * Applies a month's transfers to the contract volumes in its sheet, entry by entry in the list's order.
+ * Applies a month's transfers to the contract volumes in its sheet, one after the other in the list's order.
  *
  * If the answer is 0, the whole list was applied: the contract volumes in the sheet are those after the list, their sum
  * is as before, and every other byte of the sheet keeps what it had. The sheet is then settled as any other.
  *
  * If it is below 0, sheet or list is turned down: the answer is minus the refusal's number. Every byte of the sheet
- * keeps what it had, even if only the last entry cannot be met.
+ * keeps what it had, even if only the last of the list's entries cannot be met.
  *
  * The answer is never above 0. Any bytes may be handed over as a sheet and as a list. A list that is handed over again
- * is applied again: the module keeps no record of the lists that a sheet has seen.
+ * is applied again: the module does not know which lists a sheet has seen.
  */
 int64_t capacity_transfer(uint8_t *sheet, size_t sheet_length, const uint8_t *list, size_t list_length);
 
 /*
- * Takes the peak of one industrial complex by averaging and writes it into the sheet, as the peak of the consumer that
- * the record names. A month with several complexes has a record and a call for each.
+ * Takes the peak of one industrial complex by averaging, from its record of the month, and writes it into the sheet as
+ * the peak of the consumer that the record names. A month with several complexes has a record and a call for each.
  *
- * If the answer is 0, the peak was written: those four bytes of the sheet are the new peak, and every other byte keeps
- * what it had. The sheet is then settled as any other.
+ * If the answer is 0, the peak was written: the four bytes of that consumer's peak are the new one, and every other
+ * byte of the sheet keeps what it had. The sheet is then settled as any other.
  *
  * If it is below 0, sheet or record is turned down: the answer is minus the refusal's number. Every byte of the sheet
- * keeps what it had.
+ * keeps what it had. The peak that is to be written over is tried too, as a part of the sheet: let it be 0 where there
+ * is none yet.
  *
- * The answer is never above 0. Any bytes may be handed over as a sheet and as a record.
+ * The answer is never above 0. Any bytes may be handed over as a sheet and as a record. A record that is handed over
+ * again writes the same peak again.
  */
 int64_t capacity_average(uint8_t *sheet, size_t sheet_length, const uint8_t *record, size_t record_length);
 
 /*
- * Reading a result. The counts of rows and consumers are the sheet's, at places 12 and 13 of its header; what is read is
- * to lie below them in a result that capacity_settle wrote. Volumes are in tenths of a megawatt, money is in tiyn.
+ * Reading a result. The counts of rows and consumers are the sheet's, at places 12 and 13 of its header; what is read
+ * is to lie below them in a result that capacity_settle wrote. Volumes are in tenths of a megawatt, money is in tiyn.
  */
 struct capacity_row {
     uint32_t after_cut; /* volume after the cut */

@@ -6,9 +6,12 @@ use core::fmt;
 
 mod figures;
 mod lists;
+mod pieces;
+mod records;
 
 pub use figures::{ConsumerLine, Figures, RowLine, Totals};
 pub use lists::{list_length, write_list, Transfer, LIST_ENTRY, LIST_FRONT};
+pub use records::{record_length, write_record, Hour, LARGEST_RECORD, RECORD_FRONT, RECORD_HOUR};
 
 /// The longest sheet, in bytes: 6 producers, 31 days, 32 rows, 32 consumers.
 pub const LARGEST_SHEET: usize = 14 + 6 * (42 + 288 * 31) + 10 * 32 + 15 * 32;
@@ -16,13 +19,13 @@ pub const LARGEST_SHEET: usize = 14 + 6 * (42 + 288 * 31) + 10 * 32 + 15 * 32;
 /// The longest result, in bytes: 32 rows, 32 consumers. A buffer of this size is long enough for every sheet.
 pub const LARGEST_RESULT: usize = 21 + 16 * 32 + 25 * 32;
 
-/// Why a sheet or a list was turned down: the first of the numbers of docs/RULES.md that applies, in the order in which
-/// they are tried. Every byte of the buffers keeps what it had.
+/// Why a sheet, a list or a record was turned down: the first of the numbers of docs/RULES.md that applies, in the
+/// order in which they are tried. Every byte of the buffers keeps what it had.
 #[derive(Clone, Copy, Debug, PartialEq, Eq, Hash)]
 pub struct Refusal(u8);
 
 /// The words for each number, from 1 on.
-const WORDS: [&str; 15] = [
+const WORDS: [&str; 17] = [
     "the sheet is shorter than its header",
     "the length field is not the sheet's length",
     "the version is unknown",
@@ -38,6 +41,8 @@ const WORDS: [&str; 15] = [
     "the list is wrong: its length, its version, a day, a giver or a taker",
     "an entry of the list was filed after day 20",
     "an entry of the list asks more than the giver has, or than the taker may have",
+    "the record is wrong: its length, for its bytes or for the month, or its consumer",
+    "a power in the record is too large",
 ];
 
 impl Refusal {
@@ -71,6 +76,10 @@ impl Refusal {
     pub const FILED_LATE: Refusal = Refusal(14);
     /// At its turn, an entry asks more than the giver has or the taker may have.
     pub const OVERDRAWN: Refusal = Refusal(15);
+    /// The record's length, for its bytes or for the month, or its consumer.
+    pub const BAD_RECORD: Refusal = Refusal(16);
+    /// A power in the record, imported power too.
+    pub const HIGH_POWER: Refusal = Refusal(17);
 
     /// The number of the rule, as docs/RULES.md counts them.
     pub const fn number(self) -> u8 {
@@ -95,18 +104,28 @@ impl core::error::Error for Refusal {}
 extern "C" {
     fn capacity_settle(sheet: *const u8, sheet_length: usize, result: *mut u8, result_length: usize) -> i64;
     fn capacity_transfer(sheet: *mut u8, sheet_length: usize, list: *const u8, list_length: usize) -> i64;
+    fn capacity_average(sheet: *mut u8, sheet_length: usize, record: *const u8, record_length: usize) -> i64;
 }
 
-/// A refusal from an answer below 0. By its contract that is minus a number from 1 to 15, which fits.
+/// A refusal from an answer below 0. By its contract that is minus a number from 1 to 17, which fits.
 fn refusal(answer: i64) -> Refusal {
     Refusal(answer.unsigned_abs() as u8)
 }
 
+/// The answer of an entry that changes a sheet in place. By its contract it is 0, or a refusal.
+fn changed(answer: i64) -> Result<(), Refusal> {
+    if answer == 0 {
+        Ok(())
+    } else {
+        Err(refusal(answer))
+    }
+}
+
 /// Settles one month's sheet into a result buffer.
 ///
-/// The answer is the count of bytes written to the buffer's front: 21 + 16 for each row + 25 for each consumer. Bytes past
-/// them keep what they had. A sheet may hold any bytes and have any length, and so may the buffer; neither has to be
-/// aligned. Nothing is allocated and no state is kept, so any number of threads may call at once.
+/// The answer is the count of bytes written to the buffer's front: 21 + 16 for each row + 25 for each consumer. Bytes
+/// past them keep what they had. A sheet may hold any bytes and have any length, and so may the buffer; neither has to
+/// be aligned. Nothing is allocated and no state is kept, so any number of threads may call at once.
 ///
 /// # Errors
 ///
@@ -136,17 +155,29 @@ pub fn settle(sheet: &[u8], result: &mut [u8]) -> Result<usize, Refusal> {
 ///
 /// # Errors
 ///
-/// The [`Refusal`] of a sheet or a list that is turned down. Every byte of the sheet then keeps what it had, even if only
-/// the last entry cannot be met.
+/// The [`Refusal`] of a sheet or a list that is turned down. Every byte of the sheet then keeps what it had, even if
+/// only the last entry cannot be met.
 #[allow(unsafe_code)]
 pub fn transfer(sheet: &mut [u8], list: &[u8]) -> Result<(), Refusal> {
-    // SAFETY: as in `settle`: two slices that do not overlap, `sheet` being borrowed mutably. The module reads and writes
-    // `sheet`, reads `list`, and keeps neither pointer.
-    let answer = unsafe { capacity_transfer(sheet.as_mut_ptr(), sheet.len(), list.as_ptr(), list.len()) };
-    // By its contract: 0, or a refusal.
-    if answer == 0 {
-        Ok(())
-    } else {
-        Err(refusal(answer))
-    }
+    // SAFETY: as in `settle`: two slices that do not overlap, `sheet` being borrowed mutably. The module reads and
+    // writes `sheet`, reads `list`, and keeps neither pointer.
+    changed(unsafe { capacity_transfer(sheet.as_mut_ptr(), sheet.len(), list.as_ptr(), list.len()) })
+}
+
+/// Takes the peak of an industrial complex by averaging, from its record, and writes it into a sheet as the peak of the
+/// consumer that the record names.
+///
+/// The sheet is then settled as any other. Every byte but the four of that peak keeps what it had. A month with several
+/// complexes has a record and a call for each. Sheet and record may hold any bytes and have any length; neither has to
+/// be aligned. A record that is handed over again writes the same peak again. [`write_record`] writes a record.
+///
+/// # Errors
+///
+/// The [`Refusal`] of a sheet or a record that is turned down. Every byte of the sheet then keeps what it had. The
+/// sheet's own numbers are tried first, so what stands there as the peak beforehand has to be one that [`settle`]
+/// accepts, such as 0.
+#[allow(unsafe_code)]
+pub fn average(sheet: &mut [u8], record: &[u8]) -> Result<(), Refusal> {
+    // SAFETY: as in `transfer`, with `record` for `list`.
+    changed(unsafe { capacity_average(sheet.as_mut_ptr(), sheet.len(), record.as_ptr(), record.len()) })
 }

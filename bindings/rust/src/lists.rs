@@ -1,7 +1,8 @@
 //! Lists of transfers, written into a lent buffer.
+use crate::pieces::{write_pieces, LENGTH_FIELD};
 
 /// What stands before a list's entries, in bytes: its length and its version.
-pub const LIST_FRONT: usize = 5;
+pub const LIST_FRONT: usize = LENGTH_FIELD + 1;
 
 /// An entry of a list, in bytes.
 pub const LIST_ENTRY: usize = 7;
@@ -39,13 +40,5 @@ pub const fn list_length(entries: usize) -> usize {
 ///
 /// Whether the entries are good is for [`crate::transfer`] to say.
 pub fn write_list<'a>(transfers: &[Transfer], buffer: &'a mut [u8]) -> Option<&'a [u8]> {
-    let list = buffer.get_mut(..list_length(transfers.len()))?;
-    let length = u32::try_from(list.len()).ok()?;
-    let (front, entries) = list.split_at_mut(LIST_FRONT);
-    front[..4].copy_from_slice(&length.to_be_bytes());
-    front[4] = VERSION;
-    for (place, transfer) in entries.chunks_exact_mut(LIST_ENTRY).zip(transfers) {
-        place.copy_from_slice(&transfer.to_bytes());
-    }
-    Some(list)
+    write_pieces(&[VERSION], transfers.iter().map(|transfer| transfer.to_bytes()), buffer)
 }

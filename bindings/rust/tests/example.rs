@@ -2,6 +2,7 @@
 mod common;
 
 use capacity::{settle, Refusal, LARGEST_RESULT, LARGEST_SHEET, LIST_ENTRY, LIST_FRONT};
+use capacity::{LARGEST_RECORD, RECORD_FRONT, RECORD_HOUR};
 use common::{EXAMPLE, EXAMPLE_RESULT};
 
 /// Takes a field off the front.
@@ -35,7 +36,10 @@ fn lengths_are_those_of_the_c_header() {
     assert!(header.contains(&format!("#define CAPACITY_LARGEST_RESULT {LARGEST_RESULT}\n")));
     assert!(header.contains(&format!("#define CAPACITY_LIST_FRONT {LIST_FRONT}\n")));
     assert!(header.contains(&format!("#define CAPACITY_LIST_ENTRY {LIST_ENTRY}\n")));
-    assert_eq!((LARGEST_SHEET, LARGEST_RESULT), (54_634, 1_333));
+    assert!(header.contains(&format!("#define CAPACITY_RECORD_FRONT {RECORD_FRONT}\n")));
+    assert!(header.contains(&format!("#define CAPACITY_RECORD_HOUR {RECORD_HOUR}\n")));
+    assert!(header.contains(&format!("#define CAPACITY_LARGEST_RECORD {LARGEST_RECORD}\n")));
+    assert_eq!((LARGEST_SHEET, LARGEST_RESULT, LARGEST_RECORD), (54_634, 1_333, 5_961));
 }
 
 #[test]
@@ -57,6 +61,8 @@ fn refusals_are_those_of_the_c_header() {
         ("BAD_LIST", Refusal::BAD_LIST),
         ("FILED_LATE", Refusal::FILED_LATE),
         ("OVERDRAWN", Refusal::OVERDRAWN),
+        ("BAD_RECORD", Refusal::BAD_RECORD),
+        ("HIGH_POWER", Refusal::HIGH_POWER),
     ];
     let numbers = names.iter().filter(|(name, refusal)| {
         let line = format!("    CAPACITY_{name} = {}", refusal.number());

@@ -112,4 +112,5 @@ fn a_refusal_prints_its_number_and_words() {
     let refusal = refusal_with_room(&EXAMPLE, 0);
     assert_eq!(refusal.to_string(), "refusal 7: the result buffer is too short");
     assert_eq!(Refusal::FILED_LATE.to_string(), "refusal 14: an entry of the list was filed after day 20");
+    assert_eq!(Refusal::HIGH_POWER.to_string(), "refusal 17: a power in the record is too large");
 }

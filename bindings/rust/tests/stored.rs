@@ -1,6 +1,9 @@
-//! The stored sheets with the rival's answers, crates/vectors/data (compare/README.md has the format): one after the other,
-//! and by several threads at once.
-use capacity::{settle, transfer, Figures};
+//! The stored sheets, lists and records with the rival's answers, crates/vectors/data (compare/README.md has the
+//! format): one after the other, and by several threads at once.
+mod common;
+
+use capacity::{average, settle, transfer, Figures};
+use common::Change;
 use std::fs;
 use std::path::{Path, PathBuf};
 use std::sync::Barrier;
@@ -13,12 +16,13 @@ struct Case {
     told: Result<Vec<u8>, u8>,
 }
 
-/// The file of lists of transfers, which has a form of its own.
-const LISTS: &str = "transfers";
+/// The files of lists and of records, which have a form of their own: the entry that takes them, how many there are.
+const CHANGES: [(&str, Change, usize); 2] = [("transfers", transfer, 21), ("averages", average, 25)];
 
-struct ListCase {
+struct ChangeCase {
     sheet: Vec<u8>,
-    list: Vec<u8>,
+    /// The list or the record.
+    given: Vec<u8>,
     /// Nothing, or the refusal's number.
     told: Result<(), u8>,
     /// The sheet afterwards.
@@ -49,16 +53,16 @@ fn next_case(rest: &mut &[u8]) -> Case {
     Case { sheet, room, told }
 }
 
-fn next_list(rest: &mut &[u8]) -> ListCase {
+fn next_change(rest: &mut &[u8]) -> ChangeCase {
     let length = take_number(rest);
-    let list_length = take_number(rest);
+    let given_length = take_number(rest);
     let refused = take(rest, 1) != [0];
     let number = take_number(rest);
     let sheet = take(rest, length).to_vec();
-    let list = take(rest, list_length).to_vec();
+    let given = take(rest, given_length).to_vec();
     let after = take(rest, length).to_vec();
-    assert!(refused || number == 0, "a list that is applied is answered with 0");
-    ListCase { sheet, list, told: if refused { Err(number as u8) } else { Ok(()) }, after }
+    assert!(refused || number == 0, "a list or record that is taken is answered with 0");
+    ChangeCase { sheet, given, told: if refused { Err(number as u8) } else { Ok(()) }, after }
 }
 
 /// All that a file holds.
@@ -94,11 +98,11 @@ fn agrees(case: &Case, fill: u8) -> bool {
     answer.map_err(|refusal| refusal.number()) == told && buffer == wanted
 }
 
-/// The answer to a list and every byte of the sheet and around it are as stored.
-fn agrees_with_list(case: &ListCase, fill: u8) -> bool {
+/// The answer to a list or record and every byte of the sheet and around it are as stored.
+fn agrees_changed(entry: Change, case: &ChangeCase, fill: u8) -> bool {
     let around = |sheet: &[u8]| [&[fill; 8][..], sheet, &[fill; 8]].concat();
     let mut memory = around(&case.sheet);
-    let answer = transfer(&mut memory[8..8 + case.sheet.len()], &case.list);
+    let answer = entry(&mut memory[8..8 + case.sheet.len()], &case.given);
     answer.map_err(|refusal| refusal.number()) == case.told && memory == around(&case.after)
 }
 
@@ -111,9 +115,11 @@ fn settle_all(stored: &[(String, Vec<Case>)]) {
     }
 }
 
-fn transfer_all(lists: &[ListCase]) {
-    for (at, case) in lists.iter().enumerate() {
-        assert!(agrees_with_list(case, 0xA5) && agrees_with_list(case, 0x5A), "{LISTS}, case {at}");
+fn change_all(changes: &[Vec<ChangeCase>]) {
+    for ((kind, entry, _), cases) in CHANGES.iter().zip(changes) {
+        for (at, case) in cases.iter().enumerate() {
+            assert!(agrees_changed(*entry, case, 0xA5) && agrees_changed(*entry, case, 0x5A), "{kind}, case {at}");
+        }
     }
 }
 
@@ -122,30 +128,32 @@ fn stored() -> Vec<(String, Vec<Case>)> {
     kinds().into_iter().map(|(kind, _)| (kind.clone(), read_all(&kind, next_case))).collect()
 }
 
-/// The sheets with a list.
-fn stored_lists() -> Vec<ListCase> {
-    read_all(LISTS, next_list)
+/// The sheets with a list and those with a record, a file each.
+fn stored_changes() -> Vec<Vec<ChangeCase>> {
+    CHANGES.iter().map(|(kind, ..)| read_all(kind, next_change)).collect()
 }
 
 #[test]
 fn agree_byte_for_byte() {
-    let (stored, lists) = (stored(), stored_lists());
+    let (stored, changes) = (stored(), stored_changes());
     let counts: Vec<_> = stored.iter().map(|(kind, cases)| (kind.clone(), cases.len())).collect();
     assert_eq!(counts, kinds());
-    assert_eq!(lists.len(), 21);
-    assert_eq!(fs::read_dir(vectors().join("data")).unwrap().count(), counts.len() + 1);
+    for ((kind, _, count), cases) in CHANGES.iter().zip(&changes) {
+        assert_eq!(cases.len(), *count, "{kind}");
+    }
+    assert_eq!(fs::read_dir(vectors().join("data")).unwrap().count(), counts.len() + changes.len());
     settle_all(&stored);
-    transfer_all(&lists);
+    change_all(&changes);
 }
 
 #[test]
 fn agree_in_several_threads_at_once() {
     const THREADS: usize = 8;
-    let (stored, lists) = (stored(), stored_lists());
+    let (stored, changes) = (stored(), stored_changes());
     let start = Barrier::new(THREADS);
     let round = || {
         settle_all(&stored);
-        transfer_all(&lists);
+        change_all(&changes);
     };
     let rounds = || {
         start.wait();

@@ -1,8 +1,8 @@
 //! Lists of transfers: applied in place and settled afterwards, each new number, and the writer of lists.
 mod common;
 
-use capacity::{list_length, settle, transfer, write_list, Figures, Refusal, Transfer, LARGEST_RESULT};
-use common::{changed, MEMBERS, MEMBERS_AFTER, UNTOUCHED};
+use capacity::{list_length, transfer, write_list, Refusal, Transfer};
+use common::{answer_of, changed, settled, MEMBERS, MEMBERS_AFTER, SETTLED_AFTER, UNTOUCHED};
 
 /// Filed on day 20: consumer 0 gives consumer 1 50.0.
 const FILED: Transfer = Transfer { day: 20, giver: 0, taker: 1, amount: 500 };
@@ -12,20 +12,8 @@ fn list_of(transfers: &[Transfer]) -> Vec<u8> {
     write_list(transfers, &mut buffer).expect("the buffer is long enough").to_vec()
 }
 
-/// The answer to a list, with the bytes around the sheet as they were; after a refusal the sheet too.
 fn answer_to(sheet: &[u8], list: &[u8]) -> Result<Vec<u8>, Refusal> {
-    let mut memory = [&[UNTOUCHED; 8][..], sheet, &[UNTOUCHED; 8]].concat();
-    let (front, rest) = memory.split_at_mut(8);
-    let (lent, back) = rest.split_at_mut(sheet.len());
-    let answer = transfer(lent, list);
-    assert!(front.iter().chain(&*back).all(|byte| *byte == UNTOUCHED), "a byte beside the sheet was changed");
-    match answer {
-        Ok(()) => Ok(lent.to_vec()),
-        Err(refusal) => {
-            assert_eq!(lent, sheet, "{refusal}: a byte of the sheet was changed");
-            Err(refusal)
-        }
-    }
+    answer_of(transfer, sheet, list)
 }
 
 fn refused(transfers: &[Transfer]) -> Refusal {
@@ -40,11 +28,13 @@ fn applied(transfers: &[Transfer]) -> Vec<u8> {
 fn applied_in_place_and_settled() {
     let sheet = applied(&[FILED]);
     assert_eq!(sheet, MEMBERS_AFTER);
-    let mut result = [0; LARGEST_RESULT];
-    let count = settle(&sheet, &mut result).expect("the sheet is to be accepted");
-    let figures = Figures::of(&sheet, &result[..count]).expect("a result of this sheet");
-    let lines: Vec<_> = figures.consumers().map(|line| (line.volume, line.charge)).collect();
-    assert_eq!(lines, [(1240, 12_400_000), (1000, 10_000_000)], "as document 01 has them for 126.0 and 105.0");
+    assert_eq!(settled(&sheet), SETTLED_AFTER);
+}
+
+#[test]
+fn at_any_address_and_side_by_side() {
+    common::at_any_address(transfer, &MEMBERS, &list_of(&[FILED]), &MEMBERS_AFTER);
+    common::side_by_side(transfer, &MEMBERS, &list_of(&[FILED]), &MEMBERS_AFTER);
 }
 
 #[test]
@@ -130,12 +120,5 @@ fn the_numbers_in_their_order() {
 fn lists_are_written_where_there_is_room() {
     let wanted = [0, 0, 0, 19, 1, 20, 0, 1, 0, 0, 1, 244, 3, 255, 2, 1, 2, 3, 4];
     let transfers = [FILED, Transfer { day: 3, giver: 255, taker: 2, amount: 0x0102_0304 }];
-    for room in 0..wanted.len() {
-        let mut buffer = vec![UNTOUCHED; room];
-        assert_eq!(write_list(&transfers, &mut buffer), None);
-        assert!(buffer.iter().all(|byte| *byte == UNTOUCHED));
-    }
-    let mut buffer = [UNTOUCHED; 19 + 5];
-    assert_eq!(write_list(&transfers, &mut buffer), Some(&wanted[..]));
-    assert_eq!(buffer[19..], [UNTOUCHED; 5]);
+    common::written_where_there_is_room(|buffer| write_list(&transfers, buffer), &wanted);
 }
