@@ -43,7 +43,7 @@ module _ (h : Header) (r : List ℕ) (long : recordWidth h ≤ length r) where
   net-read i b = ap₂ (λ (a b : ℕ). a - b) (read drawnSeries i) (read sentSeries i)
 
   -- In a month that the table has.
-  module _ (few : h .days ≤ 31) (from : 1 ≤ h .weekday) (to : h .weekday ≤ 7) {on : List Bool} (days : on ≡ listed (tableDay h) 31) where
+  module _ (few : h .days ≤ 31) (from : 1 ≤ h .weekday) (to : h .weekday ≤ 7) {on : List Bool} (days : on ≡ listed (tableDay h) 256) where
     pub peak-known : {c : Control} {taken peak : ℕ} → c ≡ netControl r (h .days) on → taken ≡ imported r → peak ≡ average (c .counted .0) (c .count) - taken
         → peak ≡ complexPeak h r
     unfolding complexPeak controlAverage

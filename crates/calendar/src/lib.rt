@@ -23,17 +23,17 @@ pub fn holiday_on(h: Header, day: u8) -> bool
     }
 }
 
-// Which days are control days, of 31, as many as a month may have.
+// Which days are control days, of 256, as many as a byte can name; none past the 31 that a month may have.
 pub struct ControlDays {
-    pub on: [bool; 31],
+    pub on: [bool; 256],
 }
 
 // The control days that a header gives, whatever its number of days: yes in the table, and no holiday.
 pub fn control_days(h: Header) -> ControlDays
-    ensures { λ r. ⌜ r .on ≡ listed (tableDay h) 31 ⌝ }
+    ensures { λ r. ⌜ r .on ≡ listed (tableDay h) 256 ⌝ }
 {
     let line = line_of(h.weekday);
-    let mut on = [false; 31];
+    let mut on = [false; 256];
     let mut day: u8 = 0;
     while day < 31 {
         let i = day as usize;

@@ -1,4 +1,6 @@
 // What an entry left of a sheet, printed: the sheet's bytes, or the line of a refusal.
+ghost use mathlib.Core.Path.{_≡_};
+ghost use Rattle.rules.specs.Said.{said};
 use libc::STDOUT_FILENO;
 use rules::Answer;
 
@@ -11,12 +13,18 @@ fn print_refusal(number: u8) {
     io::write_all(STDOUT_FILENO, b"\n");
 }
 
-// Of an entry that changes a sheet and writes no result.
-pub fn print_after(answer: Answer, sheet: &[u8]) {
+// Of an entry that changes a sheet and writes no result. Its answer is handed on; what is printed is held to expected text.
+pub fn print_after(answer: Answer, sheet: &[u8]) -> Answer
+    ensures { λ r. ⌜ said r ≡ said answer ⌝ }
+{
     match answer {
-        Answer::Refused(number) => print_refusal(number),
-        Answer::Written(_) => {
+        Answer::Refused(number) => {
+            print_refusal(number);
+            Answer::Refused(number)
+        }
+        Answer::Written(count) => {
             io::write_all(STDOUT_FILENO, sheet);
+            Answer::Written(count)
         }
     }
 }

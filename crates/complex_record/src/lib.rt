@@ -11,7 +11,7 @@ use hours::Control;
 use hours::Hourly;
 use hours::control_hours;
 use refusals_form::first;
-use refusals_powers::high_powers;
+use refusals_powers::high_together;
 use rules::Header;
 use rules::Series;
 
@@ -69,5 +69,5 @@ pub fn record_refusal(h: Header, rec: &[u8]) -> u8
         return 16;
     }
     // Imported power and the powers of the hours follow each other.
-    first(17, high_powers(&rec[5..]), 0)
+    first(17, high_together(&rec[5..]), 0)
 }

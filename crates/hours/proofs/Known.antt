@@ -20,9 +20,9 @@ use Rattle.hours.specs.declared.series.Hourly.{Hourly}
 use Rattle.hours.specs.Series.{hourlyStands, hourlyIn}
 use Rattle.hours.specs.Control.{controlIn}
 
-module _ (h : Header) (few : h .days ≤ 31) (from : 1 ≤ h .weekday) (to : h .weekday ≤ 7) {on : List Bool} (days : on ≡ listed (tableDay h) 31) where
+module _ (h : Header) (few : h .days ≤ 31) (from : 1 ≤ h .weekday) (to : h .weekday ≤ 7) {on : List Bool} (days : on ≡ listed (tableDay h) 256) where
   marked : (d : ℕ) → d < h .days → getD on d false ≡ controlDay h d
-  marked d b = rw days (getD-listed false (tableDay h) 31 d (omega arith)) ∙ table-day h d from to (omega arith)
+  marked d b = rw days (getD-listed false (tableDay h) 256 d (omega arith)) ∙ table-day h d from to (omega arith)
 
   count-known : sum (λ d. when (getD on d false) 6) (h .days) ≡ controlCount h
   count-known = sum-same _ _ {n = h .days} refl (λ d b. ap (λ (t : Bool). when t 6) (marked d b)) ∙ sym (count-by-day h)

@@ -70,7 +70,7 @@ module _ (l : Layout) (s : List ℕ) (p : ℕ) (fits : hoursAt l p + hoursWidth 
         rw (is, sums, standing (hourSeries l .working) refl (omega arith), standing (hourSeries l .possible) refl (omega arith), sum-same _ _ {n = hours (l .header)} refl met-read, sum-same _ _ {n = hours (l .header)} refl asked-read)
 
   -- k1.
-  module _ (few : l .header .days ≤ 31) (from : 1 ≤ l .header .weekday) (to : l .header .weekday ≤ 7) {on : List Bool} (days : on ≡ listed (tableDay (l .header)) 31) where
+  module _ (few : l .header .days ≤ 31) (from : 1 ≤ l .header .weekday) (to : l .header .weekday ≤ 7) {on : List Bool} (days : on ≡ listed (tableDay (l .header)) 256) where
     control : {c : Control} → c ≡ controlIn part (Hourly.Power (hourSeries l .outside)) (l .header .days) on
         → c ≡ record { counted = tenths (controlSum (l .header) (producerUnder l s p .outsideUse)); count = controlCount (l .header) }
     control is =

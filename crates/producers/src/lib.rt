@@ -142,7 +142,7 @@ fn excess_of(summed: Tenths, own: u32, attested: u32) -> Tenths
 fn terms_of(s: &[u8], layout: Layout, p: u8, v: Volumes, control: ControlDays) -> Terms
     requires { ⌜ (layout .header .days ≤ 31) × (hoursAt layout p + hoursWidth (layout .header) ≤ length (now s)) ⌝ }
     requires { ⌜ (v ≡ volumesOf (monthUnder layout (now s)) p) × Fits v ⌝ }
-    requires { ⌜ (1 ≤ layout .header .weekday) × (layout .header .weekday ≤ 7) × (control .on ≡ listed (tableDay (layout .header)) 31) ⌝ }
+    requires { ⌜ (1 ≤ layout .header .weekday) × (layout .header .weekday ≤ 7) × (control .on ≡ listed (tableDay (layout .header)) 256) ⌝ }
     ensures { λ r. ⌜ r ≡ termsAt (monthUnder layout (now (s .entry))) p 0 ⌝ }
 {
     let x = producer(s, layout, p);

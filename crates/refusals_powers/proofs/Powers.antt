@@ -23,6 +23,11 @@ powers-more s k n at m e q x y =
     let same : highFrom s at n ≡ any (λ i. highPower s (k + i)) n = any-same _ _ n (λ i l. there s (omega arith)) in
     rw (x, y, same, ← q) (sym (any-append (highPower s) k n))
 
+-- All powers of a part, from its beginning on.
+pub from-start : (s : List ℕ) → highFrom s 0 (length s / 4) ≡ highPowers s
+unfolding highPowers
+from-start s = any-same _ _ (length s / 4) (λ i l. there s (omega arith))
+
 -- The powers of the n bytes from a place on.
 pub part-high : (s : List ℕ) (at n count : ℕ) → n ≡ 4 * count → at + n ≤ length s → highPowers (take n (drop at s)) ≡ highFrom s at count
 unfolding highPowers

@@ -1,4 +1,4 @@
-// Number 9 of powers that stand one after the other, as a producer's hours do. A power is taken as it stands in the machine's word, so
+// Numbers 9 and 17 of powers that stand one after the other, as a producer's hours or those of a complex's record do. A power is taken as it stands in the machine's word, so
 // that one instruction serves four of them. A block of 72 powers, as many as a producer's day has, is passed while each of its powers has
 // two zero bytes at the front. From the first other block on every power leaves its marks, and the marks of all are tested once.
 ghost use mathlib.Core.Path.{_≡_};
@@ -33,14 +33,14 @@ fn turned(s: &[u8], at: usize) -> u32
     wide(s[at]) + wide(s[at + 1]) * 256 + wide(s[at + 2]) * 65536 + wide(s[at + 3]) * 16777216
 }
 
-// The bits of a block that begins at a place.
-fn bits_on(s: &[u8], at: usize) -> u32
-    requires { ⌜ at + 288 ≤ length (now s) ⌝ }
-    ensures { λ r. ⌜ (r % 65536 ≡ 0 → highFrom (now (s .entry)) at 72 ≡ false) ⌝ }
+// The bits of so many powers from a place on.
+fn bits_on(s: &[u8], at: usize, count: usize) -> u32
+    requires { ⌜ at + 4 * count ≤ length (now s) ⌝ }
+    ensures { λ r. ⌜ (r % 65536 ≡ 0 → highFrom (now (s .entry)) at count ≡ false) ⌝ }
 {
     let mut bits: u32 = 0;
     let mut i: usize = 0;
-    while i < 72 {
+    while i < count {
         bits = bits | turned(s, at + 4 * i);
         i += 1;
     }
@@ -80,14 +80,14 @@ fn is_marked(m: Marks) -> bool
     (0 < m.front % 256) | ((0 < m.front / 512 % 128) | (0 < m.above / 256 % 2))
 }
 
-// The marks of a block that begins at a place.
-fn marks_on(s: &[u8], at: usize) -> Marks
-    requires { ⌜ at + 288 ≤ length (now s) ⌝ }
-    ensures { λ r. ⌜ marked r ≡ highFrom (now (s .entry)) at 72 ⌝ }
+// The marks of so many powers from a place on.
+fn marks_on(s: &[u8], at: usize, count: usize) -> Marks
+    requires { ⌜ at + 4 * count ≤ length (now s) ⌝ }
+    ensures { λ r. ⌜ marked r ≡ highFrom (now (s .entry)) at count ⌝ }
 {
     let mut m = Marks { front: 0, above: 0 };
     let mut i: usize = 0;
-    while i < 72 {
+    while i < count {
         m = joined(m, marks_at(s, at + 4 * i));
         i += 1;
     }
@@ -100,7 +100,7 @@ fn low_blocks(part: &[u8]) -> usize
 {
     let mut b: usize = 0;
     while b < part.len() / 288 {
-        if 0 < bits_on(part, 288 * b) % 65536 {
+        if 0 < bits_on(part, 288 * b, 72) % 65536 {
             return b;
         }
         b += 1;
@@ -116,7 +116,7 @@ fn high_blocks(part: &[u8], first: usize) -> bool
     let mut m = Marks { front: 0, above: 0 };
     let mut b = first;
     while b < part.len() / 288 {
-        m = joined(m, marks_on(part, 288 * b));
+        m = joined(m, marks_on(part, 288 * b, 72));
         b += 1;
     }
     is_marked(m)
@@ -143,4 +143,16 @@ pub fn high_powers(part: &[u8]) -> bool
     let blocks = part.len() / 288;
     high_blocks(part, low_blocks(part))
         | one_by_one(part, 288 * blocks, part.len() / 4 - 72 * blocks)
+}
+
+// The same of a part that is tried by itself, as a record is: all of its powers are one block. It is a function of its own, so that each of
+// the two stands where it is called (docs/DECISIONS.md, Requests, 3).
+pub fn high_together(part: &[u8]) -> bool
+    ensures { λ r. ⌜ r ≡ highPowers (now (part .entry)) ⌝ }
+{
+    let count = part.len() / 4;
+    if bits_on(part, 0, count) % 65536 == 0 {
+        return false;
+    }
+    is_marked(marks_on(part, 0, count))
 }

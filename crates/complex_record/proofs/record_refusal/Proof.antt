@@ -25,17 +25,17 @@ good c = sym (c .before .bad-record .ensures) ∙ c .if1 .left
 whole : (c : tie.Else1) → WholeRecord (c .before .before .before .args .h) (c .before .before .before .args .rec .now)
 whole c = whole-record _ _ (good c)
 
-sub-high-powers : tie.Need-sub-high-powers
-sub-high-powers c = omega (arith, whole c .as-long)
+sub-high-together : tie.Need-sub-high-together
+sub-high-together c = omega (arith, whole c .as-long)
 
-part-high-powers-start : tie.Need-part-high-powers-start
-part-high-powers-start c = omega (arith, whole c .as-long)
+part-high-together-start : tie.Need-part-high-together-start
+part-high-together-start c = omega (arith, whole c .as-long)
 
-part-high-powers-end : tie.Need-part-high-powers-end
-part-high-powers-end c = search needs
+part-high-together-end : tie.Need-part-high-together-end
+part-high-together-end c = search needs
 
-high-powers-requires : tie.Need-high-powers-requires
-high-powers-requires c κs = search needs
+high-together-requires : tie.Need-high-together-requires
+high-together-requires c κs = search needs
 
 first-requires : tie.Need-first-requires
 first-requires c κs = search needs
@@ -45,7 +45,7 @@ unfolding recordTests firstOf
 returns-2 c =
     let a = c .before .before .before .before .before .before .args in
     let e = c .before .before .before in
-    rw (c .first .ensures, c .before .high-powers .ensures, powers-high (a .h) (a .rec .now) (whole e), good e)
+    rw (c .first .ensures, c .before .high-together .ensures, powers-high (a .h) (a .rec .now) (whole e), good e)
 
 pub record-refusal-spec : {M : Type 1} → statement M
 record-refusal-spec =
@@ -53,9 +53,9 @@ record-refusal-spec =
     (tie.spec
     bad-record-requires
     returns
-    sub-high-powers
-    part-high-powers-start
-    part-high-powers-end
-    high-powers-requires
+    sub-high-together
+    part-high-together-start
+    part-high-together-end
+    high-together-requires
     first-requires
     returns-2)

@@ -25,7 +25,7 @@ Inv-loop s layout all₀ control volumes n p₀ all p =
     × (n ≤ 6)
     × (0 < n → (layout .header .days ≤ 31) × (n ≤ layout .header .producers) × (sheetLength layout ≤ length s)
     × (1 ≤ layout .header .weekday) × (layout .header .weekday ≤ 7))
-    × (control .on ≡ listed (tableDay (layout .header)) 31)
+    × (control .on ≡ listed (tableDay (layout .header)) 256)
 
 abbrev μ-loop : tie.MeasureT-loop
 μ-loop s layout all₀ control volumes n p₀ all p = n - p

@@ -9,10 +9,10 @@ use Rattle.refusals_powers.proofs.bits_on.Statement.{statement}
 use Rattle.refusals_powers.proofs.bits_on.Tie as tie
 
 abbrev Inv-loop : tie.InvT-loop
-Inv-loop s at bits₀ i₀ bits i = (bits % 65536 ≡ 0 → highFrom s at i ≡ false) × (i ≤ 72)
+Inv-loop s at count bits₀ i₀ bits i = (bits % 65536 ≡ 0 → highFrom s at i ≡ false) × (i ≤ count)
 
 abbrev μ-loop : tie.MeasureT-loop
-μ-loop s at bits₀ i₀ bits i = 72 - i
+μ-loop s at count bits₀ i₀ bits i = count - i
 
 loop-holds : tie.Need-loop-holds Inv-loop μ-loop
 loop-holds c = (λ e. any-start _, zero-le)

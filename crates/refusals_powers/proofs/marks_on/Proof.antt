@@ -10,10 +10,10 @@ use Rattle.refusals_powers.proofs.marks_on.Statement.{statement}
 use Rattle.refusals_powers.proofs.marks_on.Tie as tie
 
 abbrev Inv-loop : tie.InvT-loop
-Inv-loop s at m₀ i₀ m i = (marked m ≡ highFrom s at i) × (i ≤ 72)
+Inv-loop s at count m₀ i₀ m i = (marked m ≡ highFrom s at i) × (i ≤ count)
 
 abbrev μ-loop : tie.MeasureT-loop
-μ-loop s at m₀ i₀ m i = 72 - i
+μ-loop s at count m₀ i₀ m i = count - i
 
 loop-holds : tie.Need-loop-holds Inv-loop μ-loop
 loop-holds c = (none-told ∙ sym (any-start _), zero-le)
