@@ -74,6 +74,9 @@ for name in $needed; do
     case $name in memcpy | memmove | memset | memcmp) ;; *) fail "the archive needs $name" ;; esac
 done
 [ "$variables" -eq 0 ] || fail "the archive has $variables bytes of variables"
+# A byte below the stack pointer would be lost to an interrupt that uses the same stack.
+below=$(objdump -d "$archive" | grep -c -- '-0x[0-9a-f]*(%rsp' || :)
+[ "$below" -eq 0 ] || fail "the archive uses bytes below the stack pointer, at $below places"
 echo "archive: exports $exported; needs ${needed:-nothing}; $code bytes of code, no variables"
 
 # The stack: what the stored cases use, and every function's return address, pushes and locals added up.
