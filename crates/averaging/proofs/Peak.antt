@@ -1,5 +1,5 @@
 -- Net power in a record's hours, and the peak that comes of it. Assumes nothing.
-use mathlib.Core.Path.{_≡_, refl, ap₂, _∙_}
+use mathlib.Core.Path.{_≡_, refl, ap₂}
 use mathlib.Core.Bool.{Bool, true}
 use mathlib.Core.List.{List}
 use Prim.Native.Nat.{ℕ, _+_, _-_, _*_, _≤_, _<_}
@@ -11,12 +11,11 @@ use Rattle.rules.specs.declared.Series.{Series}
 use Rattle.rules.specs.Range.{listed}
 use Rattle.rules.specs.Month.{hours}
 use Rattle.rules.specs.Sheet.{power}
-use Rattle.rules.specs.ControlHours.{average, controlSum, controlCount, controlAverage}
+use Rattle.rules.specs.ControlHours.{average, controlAverage}
 use Rattle.rules.specs.ControlTable.{tableDay}
 use Rattle.rules.specs.ComplexRecord.{recordWidth, imported, drawnSeries, sentSeries, drawn, sent}
 use Rattle.rules.specs.Averaging.{net, complexPeak}
 use Rattle.laws.proofs.Fields.{read-drop}
-use Rattle.units.specs.Sums.{tenths}
 use Rattle.hours.specs.declared.control.Control.{Control}
 use Rattle.hours.specs.Series.{stands, powerIn, hourlyStands, hourlyIn}
 use Rattle.hours.proofs.Known.{control-known}

@@ -2,7 +2,7 @@
 use mathlib.Core.Path.{_≡_, refl, sym, ap, ap₂, _∙_}
 use mathlib.Core.Bool.{Bool, or-false, _||_}
 use mathlib.Core.List.{List}
-use Prim.Native.Nat.{ℕ, _+_, _-_, _*_, _<_}
+use Prim.Native.Nat.{ℕ, _+_, _-_, _*_}
 use native.Mathlib.Omega.{arith}
 use lib.ListN.{length, take, drop}
 use Rattle.rules.specs.declared.Header.{Header}
@@ -15,7 +15,7 @@ use Rattle.rules.specs.ComplexRecord.{imported, drawn, sent}
 use Rattle.rules.specs.Averaging.{highAt, highRecord}
 use Rattle.laws.proofs.Range.{any-append, any-groups, any-same}
 use Rattle.laws.proofs.Averaging.{WholeRecord}
-use Rattle.refusals_powers.specs.Powers.{highPowers, highFrom}
+use Rattle.refusals_powers.specs.Powers.{highPowers}
 use Rattle.refusals_powers.proofs.Powers.{part-high}
 
 module _ (h : Header) (r : List ℕ) (whole : WholeRecord h r) where

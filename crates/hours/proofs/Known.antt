@@ -15,7 +15,6 @@ use Rattle.laws.proofs.Arrays.{getD-listed}
 use Rattle.laws.proofs.ControlHours.{evening, control-by-day, count-by-day}
 use Rattle.laws.proofs.ControlTable.{table-day}
 use Rattle.units.specs.Sums.{tenths}
-use Rattle.hours.specs.declared.control.Control.{Control}
 use Rattle.hours.specs.declared.series.Hourly.{Hourly}
 use Rattle.hours.specs.Series.{hourlyStands, hourlyIn}
 use Rattle.hours.specs.Control.{controlIn}

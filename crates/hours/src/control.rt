@@ -1,7 +1,6 @@
 // The sum of an hourly figure over the control hours, and how many hours these are.
 ghost use mathlib.Core.Path.{_≡_};
 ghost use Prim.Native.Nat.{_+_, _-_, _*_, _<_, _≤_};
-ghost use lib.ListN.{length};
 ghost use Rattle.rules.specs.ControlHours.{average};
 ghost use Rattle.laws.proofs.ControlHours.{evening};
 ghost use Rattle.laws.specs.Bounds.{mostWord};

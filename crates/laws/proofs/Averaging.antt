@@ -1,24 +1,20 @@
 -- Industrial complexes: what a record keeps to that is not refused, and what higher powers do to a peak. Assumes nothing.
-use mathlib.Core.Path.{_≡_, refl, sym, ap, _∙_}
-use mathlib.Core.Bool.{Bool, true, false, or-false, _||_}
+use mathlib.Core.Path.{_≡_, sym, _∙_}
+use mathlib.Core.Bool.{false}
 use mathlib.Core.List.{List}
-use Prim.Native.Nat.{ℕ, _+_, _-_, _*_, _≤_, _<_}
-use native.Mathlib.Omega.{arith}
-use borrow.Author.Tests.{ltb-false, leb-false, eqb-true}
-use lib.Dec.{T}
+use Prim.Native.Nat.{ℕ, _≤_, _<_}
+use borrow.Author.Tests.{leb-false, eqb-true}
 use lib.ListN.{length}
 use Rattle.rules.specs.declared.Header.{Header}
-use Rattle.rules.specs.Range.{any}
 use Rattle.rules.specs.Units.{tenthsCeiling}
 use Rattle.rules.specs.Limits.{FormLimits, MonthLimits}
 use Rattle.rules.specs.Month.{hours}
 use Rattle.rules.specs.Sheet.{headerOf, monthOf}
 use Rattle.rules.specs.Refusals.{sheetTests, firstOf, applies}
-use Rattle.rules.specs.ControlHours.{controlAverage}
-use Rattle.rules.specs.ComplexRecord.{recordFront, recordWidth, recordLength, complex, imported, drawn, sent}
-use Rattle.rules.specs.Averaging.{badRecord, highAt, highRecord, net, complexPeak, recordTests, averageTests, averageRefusal}
+use Rattle.rules.specs.ComplexRecord.{recordWidth, complex, imported, drawn, sent}
+use Rattle.rules.specs.Averaging.{badRecord, highAt, highRecord, recordTests, averageTests, averageRefusal}
 use Rattle.laws.proofs.Range.{any-clear}
-use Rattle.laws.proofs.Refusals.{numbered, none-applies, first-both, none-of, not-true, high-clear, sheet-numbered, sheet-limits}
+use Rattle.laws.proofs.Refusals.{none-applies, first-both, none-of, not-true, high-clear, sheet-numbered, sheet-limits}
 
 -- A record that 16 lets pass: it is as long as the month asks, and names a consumer of the sheet.
 pub record WholeRecord (h : Header) (r : List ℕ) : Type 0 where

@@ -12,7 +12,6 @@ use lib.Dec.{eqb}
 use lib.ListN.{length, getD}
 use Rattle.rules.specs.declared.Header.{Header}
 use Rattle.rules.specs.declared.Consumer.{Consumer}
-use Rattle.rules.specs.declared.Layout.{Layout}
 use Rattle.rules.specs.Range.{sum, when}
 use Rattle.rules.specs.Month.{Producer, Month, hours, withConsumers}
 use Rattle.rules.specs.Units.{tenthsCeiling}
@@ -25,11 +24,10 @@ use Rattle.rules.specs.Consumers.{credited, credit, countedPeak, percent, band,
 use Rattle.rules.specs.Totals.{totalPaid}
 use Rattle.rules.specs.Fields.{bigEndian, bytesOf, over}
 use Rattle.rules.specs.Sheet.{headerOf, layoutOf, monthOf, consumerAt, consumerOf, peakAt, withPeak}
-use Rattle.rules.specs.Result.{TotalFigures, rowFigures, consumerFigures, totalFigures, readRow, readConsumer, readTotals, resultOf}
+use Rattle.rules.specs.Result.{TotalFigures, rowFigures, consumerFigures, resultOf}
 use Rattle.rules.specs.Outcome.{Accepted, bufferAfter}
 use Rattle.rules.specs.ComplexRecord.{complex, imported, drawn, sent}
 use Rattle.rules.specs.Averaging.{net, complexPeak, averageRefusal, peakWritten, averaged, atPeak, withPeakOf}
-use Rattle.laws.proofs.Range.{sum-mono, when-mono}
 use Rattle.laws.proofs.Units.{rounded-at-most}
 use Rattle.laws.proofs.Coefficients.{average-is}
 use Rattle.laws.proofs.Fields.{length-bytesOf, same-bytes, Holds, read-held}

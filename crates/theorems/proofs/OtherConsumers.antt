@@ -10,7 +10,7 @@ use lib.ListN.{length, getD}
 use Rattle.rules.specs.declared.Header.{Header}
 use Rattle.rules.specs.declared.Consumer.{Consumer}
 use Rattle.rules.specs.declared.Layout.{Layout}
-use Rattle.rules.specs.Month.{Month, hours, withConsumers}
+use Rattle.rules.specs.Month.{hours, withConsumers}
 use Rattle.rules.specs.Limits.{HeaderLimits, ConsumerLimits, FormLimits, MonthLimits}
 use Rattle.rules.specs.Fields.{bigEndian, over}
 use Rattle.rules.specs.Sheet.{version, lengthField, headerOf, layoutOf, monthOf, monthUnder, hoursWidth, producerAt, hoursAt, power, producerUnder, rowAt, rowOf, consumerAt, consumerOf, sheetLength}

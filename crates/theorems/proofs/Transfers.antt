@@ -1,22 +1,21 @@
 -- A sheet with other contract volumes: what is kept, and that its month is the old one with those volumes. Assumes nothing.
-use mathlib.Core.Path.{_≡_, refl, sym, ap, subst, _∙_}
+use mathlib.Core.Path.{_≡_, refl, sym, ap, _∙_}
 use mathlib.Core.Bool.{Bool, true, false, cond}
 use mathlib.Core.List.{List, _++_}
-use Prim.Native.Nat.{ℕ, _+_, _*_, _^_, _≤_, _<_}
-use native.Mathlib.Nat.{le-refl, add-zero, mul-le-mul-right}
+use Prim.Native.Nat.{ℕ, _+_, _≤_, _<_}
+use native.Mathlib.Nat.{le-refl}
 use native.Mathlib.Omega.{arith}
-use borrow.Author.Tests.{eqb-true, eqb-false, eq-eqb, ne-eqb}
+use borrow.Author.Tests.{eqb-true, eqb-false}
 use lib.Dec.{eqb}
 use lib.ListN.{length, getD}
 use Rattle.rules.specs.declared.Header.{Header}
 use Rattle.rules.specs.declared.Consumer.{Consumer}
 use Rattle.rules.specs.declared.Layout.{Layout}
-use Rattle.rules.specs.Month.{hours}
 use Rattle.rules.specs.Units.{tenthsCeiling}
 use Rattle.rules.specs.Limits.{FormLimits, ConsumerLimits, MonthLimits}
 use Rattle.rules.specs.Fields.{bigEndian, over}
-use Rattle.rules.specs.Sheet.{version, lengthField, headerOf, layoutOf, monthOf, monthUnder, hoursWidth, producerAt, hoursAt, power, producerUnder, rowAt, rowOf, consumerAt, consumerOf, contractAt, sheetLength, withContracts}
-use Rattle.rules.specs.Result.{resultLength, resultOf}
+use Rattle.rules.specs.Sheet.{headerOf, layoutOf, monthOf, consumerAt, consumerOf, contractAt, withContracts}
+use Rattle.rules.specs.Result.{resultOf}
 use Rattle.rules.specs.Refusals.{frontTests, headerTests, formTests, roomTests, figureTests, sheetTests, tests, firstOf, refusal}
 use Rattle.rules.specs.Outcome.{Accepted, bufferAfter}
 use Rattle.rules.specs.TransferList.{entries}

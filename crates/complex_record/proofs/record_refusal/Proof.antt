@@ -1,8 +1,6 @@
 use native.Mathlib.Omega.{arith}
 use mathlib.Core.Path.{_≡_, sym, _∙_}
 use mathlib.Core.Bool.{false}
-use Prim.Native.Nat.{_-_, _≤_}
-use lib.ListN.{length}
 use Rattle.rules.specs.Refusals.{firstOf}
 use Rattle.rules.specs.Averaging.{badRecord, recordTests}
 use Rattle.laws.proofs.Averaging.{WholeRecord, whole-record}

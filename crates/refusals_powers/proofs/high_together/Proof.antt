@@ -1,4 +1,4 @@
-use mathlib.Core.Path.{_≡_, sym, _∙_}
+use mathlib.Core.Path.{sym, _∙_}
 use Rattle.refusals_powers.proofs.Powers.{from-start}
 use borrow.Author.Needs.{needs}
 use Rattle.refusals_powers.proofs.high_together.Statement.{statement}
