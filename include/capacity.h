@@ -13,8 +13,8 @@
  * overlap.
  *
  * Sheet, result, list and record are laid out as docs/RULES.md says: every field unsigned, big-endian, no padding.
- * Consumers are counted from 0. What a call needs of stack and processor, and what an interrupt that comes during a
- * call has to leave alone, is in docs/EMBEDDING.md.
+ * Consumers are counted from 0. What a call needs of stack and processor, also under interrupts, is in
+ * docs/EMBEDDING.md.
  */
 #ifndef CAPACITY_H
 #define CAPACITY_H

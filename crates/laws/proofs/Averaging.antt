@@ -1,4 +1,4 @@
--- Industrial complexes: what a record keeps to that is not refused, and what higher powers do to a peak. Assumes nothing.
+-- Industrial complexes: what a record keeps to that is not refused. Assumes nothing.
 use mathlib.Core.Path.{_≡_, sym, _∙_}
 use mathlib.Core.Bool.{false}
 use mathlib.Core.List.{List}

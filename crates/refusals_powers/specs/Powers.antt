@@ -1,4 +1,4 @@
--- Number 9 of powers that stand one after the other, four bytes each.
+-- Numbers 9 and 17 of powers that stand one after the other, four bytes each.
 use Prim.Native.Nat.{ℕ, _+_, _*_, _/_}
 use mathlib.Core.Bool.{Bool}
 use mathlib.Core.List.{List}

@@ -1,6 +1,6 @@
-// Numbers 9 and 17 of powers that stand one after the other, as a producer's hours or those of a complex's record do. A power is taken as it stands in the machine's word, so
-// that one instruction serves four of them. A block of 72 powers, as many as a producer's day has, is passed while each of its powers has
-// two zero bytes at the front. From the first other block on every power leaves its marks, and the marks of all are tested once.
+// Numbers 9 and 17 of powers that stand one after the other, as a producer's hours or those of a complex's record do. A power is taken as
+// it stands in the machine's word, so that one instruction serves four of them. A block of 72 powers, as many as a producer's day has, is
+// passed while each of its powers has two zero bytes at the front. From the first other block on every power leaves its marks, and the marks of all are tested once.
 ghost use mathlib.Core.Path.{_≡_};
 ghost use mathlib.Core.Bool.{false, _||_};
 ghost use Prim.Native.Nat.{_+_, _*_, _/_, _%_, _^_, _<_, _≤_};

@@ -52,7 +52,8 @@ peakCases =
     ∷ figure (monday 200 (inHour 17 1002 (every 1000)) (every 300)) 500
     ∷ figure (monday 200 (inHour 17 1003 (every 1000)) (every 300)) 501
     ∷ figure (monday 200 (inHour 22 1004 (every 1000)) (every 300)) 501
-    -- imported power just below, at and above the rounded average of 70.1, which is 70.05 before it is rounded
+    -- imported power just below, at and above the rounded average of 70.1, which is 70.05 before it is rounded (taken off before
+    -- the rounding, imported power would give the same, since it is whole)
     ∷ figure (monday 700 (inHour 17 1003 (every 1000)) (every 300)) 1
     ∷ figure (monday 701 (inHour 17 1003 (every 1000)) (every 300)) 0
     ∷ figure (monday 702 (inHour 17 1003 (every 1000)) (every 300)) 0
@@ -74,8 +75,8 @@ peakCases =
     -- no control day: a Saturday; a Monday that is a holiday
     ∷ figure (complexPeak (monthFrom 1 6 0) (day 0 (every 1000) (every 300))) 0
     ∷ figure (complexPeak (monthFrom 1 1 1) (day 0 (every 1000) (every 300))) 0
-    -- two days, 30.0 sent out on the first and 3.0 on the second: 70.0 and 97.0. From Thursday on 6 × 700 + 6 × 970 = 10,020, / 12 = 835; from Friday on 70.0,
-    -- from Sunday on 97.0; from Thursday on with the second day a holiday 70.0
+    -- two days, 30.0 sent out on the first and 3.0 on the second: 70.0 and 97.0. From Thursday on 6 × 700 + 6 × 970 = 10,020, / 12 = 835;
+    -- from Friday on 70.0, from Sunday on 97.0; from Thursday on with the second day a holiday 70.0
     ∷ figure (complexPeak (monthFrom 2 4 0) (days 0 (every 1000) (firstHours 24 300 (every 30)))) 835
     ∷ figure (complexPeak (monthFrom 2 5 0) (days 0 (every 1000) (firstHours 24 300 (every 30)))) 700
     ∷ figure (complexPeak (monthFrom 2 7 0) (days 0 (every 1000) (firstHours 24 300 (every 30)))) 970

@@ -26,7 +26,7 @@ use Rattle.rules.specs.Fields.{bigEndian, bytesOf, over}
 use Rattle.rules.specs.Sheet.{headerOf, layoutOf, monthOf, consumerAt, consumerOf, peakAt, withPeak}
 use Rattle.rules.specs.Result.{TotalFigures, rowFigures, consumerFigures, resultOf}
 use Rattle.rules.specs.Outcome.{Accepted, bufferAfter}
-use Rattle.rules.specs.ComplexRecord.{complex, imported, drawn, sent}
+use Rattle.rules.specs.ComplexRecord.{complex, drawn, sent}
 use Rattle.rules.specs.Averaging.{net, complexPeak, averageRefusal, peakWritten, averaged, atPeak, withPeakOf}
 use Rattle.laws.proofs.Units.{rounded-at-most}
 use Rattle.laws.proofs.Coefficients.{average-is}
@@ -258,7 +258,7 @@ module _ (m : Month) (c : ℕ) (k k′ : ℕ → Consumer) (same : (d : ℕ) →
             ∙ sym (ap (λ (f : TotalFigures). f .paid) (totals-read (withConsumers m k) w out b));
       }
 
--- The peaks of two consumers that are not c are those of the month.
+-- A consumer that is not c is the month's.
 other-peak : (m : Month) (c p d : ℕ) → (d ≡ c → ⊥) → withPeakOf m c p .consumer d ≡ m .consumer d
 other-peak m c p d n = rw (ne-eqb d c n)
 

@@ -10,7 +10,7 @@ use Rattle.rules.specs.Result.{readRow, readConsumer, readTotals}
 use Rattle.rules.specs.Outcome.{Accepted}
 use Rattle.rules.specs.ComplexRecord.{complex, imported, drawn, sent}
 
--- The byte at a place belongs not to consumer c's peak: it stands before it, or past its four bytes.
+-- The byte at a place does not belong to consumer c's peak: it stands before it, or past its four bytes.
 abbrev pub OutsidePeak : List ℕ → ℕ → ℕ → Type 0
 OutsidePeak s c i = peakAt (layoutOf s) c ≤ i → peakAt (layoutOf s) c + 4 ≤ i
 
