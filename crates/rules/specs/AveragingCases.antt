@@ -1,6 +1,6 @@
 -- Records of industrial complexes of our own, worked out by hand from request 3: the peak with its zero rules and its half, each number at
 -- its limit and just past it, in its order, and the sheet afterwards. Figures are in tenths of a megawatt.
-use Prim.Native.Nat.{ℕ}
+use Prim.Native.Nat.{ℕ, zero, suc}
 use mathlib.Core.Bool.{cond}
 use mathlib.Core.List.{List, [], _∷_, _++_}
 use lib.ListN.{replicate}
@@ -22,8 +22,13 @@ monthFrom days weekday holidays = month days weekday holidays [] [] (replicate 3
 abbrev front : ℕ → ℕ → ℕ → List ℕ
 front length complex imported = bytesOf 4 length ++ (complex ∷ []) ++ bytesOf 4 imported
 
+-- The powers of n hours from hour i on.
+unfoldable pub powersFrom : (ℕ → ℕ) → (ℕ → ℕ) → ℕ → ℕ → List ℕ
+powersFrom drawn sent zero i = []
+powersFrom drawn sent (suc n) i = bytesOf 4 (drawn i) ++ (bytesOf 4 (sent i) ++ powersFrom drawn sent n (suc i))
+
 abbrev recordOf : ℕ → ℕ → ℕ → ℕ → (ℕ → ℕ) → (ℕ → ℕ) → List ℕ
-recordOf length complex imported hours drawn sent = front length complex imported ++ joined (λ i. bytesOf 4 (drawn i) ++ bytesOf 4 (sent i)) hours
+recordOf length complex imported hours drawn sent = front length complex imported ++ powersFrom drawn sent hours 0
 
 -- One day, 9 + 192 = 201 bytes; two days, 393.
 abbrev day : ℕ → (ℕ → ℕ) → (ℕ → ℕ) → List ℕ
@@ -143,11 +148,11 @@ peakFigures =
 
 -- By computation: no peak and no number is wrong.
 pub peak-cases : wrong peakCases ≡ []
-unfolding settlement layout averaging peakCases
+unfolding settlement layout averaging powersFrom peakCases
 peak-cases = refl
 
 pub record-cases : wrong recordCases ≡ []
-unfolding settlement layout averaging recordCases
+unfolding settlement layout averaging powersFrom recordCases
 record-cases = refl
 
 pub peak-figures : wrong peakFigures ≡ []
