@@ -1,9 +1,10 @@
 /*
  * Monthly capacity settlement: the module's entries for C.
  *
- * capacity_settle     settles a month's sheet into a result
- * capacity_transfer   applies a list of transfers to the contract volumes in a sheet, before it is settled
- * capacity_average    writes the peak of an industrial complex, by averaging, into a sheet, before it is settled
+ * capacity_settle        settles a month's sheet into a result
+ * capacity_transfer      applies a list of transfers to the contract volumes in a sheet, before it is settled
+ * capacity_average       writes the peak of an industrial complex, by averaging, into a sheet, before it is settled
+ * capacity_settle_2015   settles a sheet's consumers under the text of 2015, for old acts, into a result of its own
  *
  * capacity_transfer and capacity_average change the sheet in place. They may be called in either order, or not at all.
  *
@@ -32,6 +33,9 @@ extern "C" {
 /* The longest result, in bytes: 32 rows, 32 consumers. A buffer of this size is long enough for every sheet. */
 #define CAPACITY_LARGEST_RESULT 1333
 
+/* The longest result under the text of 2015, in bytes: 32 consumers. */
+#define CAPACITY_LARGEST_RESULT_2015 548
+
 /* A list of transfers, in bytes: its front (length and version), and each of its entries, however many there are. */
 #define CAPACITY_LIST_FRONT 5
 #define CAPACITY_LIST_ENTRY 7
@@ -48,9 +52,10 @@ extern "C" {
  * The refusals: an answer of -CAPACITY_NO_HEADER and so on. docs/RULES.md has each cause. An entry tries its own in
  * this order, and answers with the first that applies:
  *
- * capacity_settle      1 to 12
- * capacity_transfer    1 to 6 and 8 to 12 of the sheet, then 13 to 15 of the list
- * capacity_average     1 to 6 and 8 to 12 of the sheet, then 16 and 17 of the record
+ * capacity_settle        1 to 12
+ * capacity_transfer      1 to 6 and 8 to 12 of the sheet, then 13 to 15 of the list
+ * capacity_average       1 to 6 and 8 to 12 of the sheet, then 16 and 17 of the record
+ * capacity_settle_2015   1 to 12, where 7 is about the result of this entry
  */
 enum capacity_refusal {
     CAPACITY_NO_HEADER = 1,       /* the sheet has fewer than 14 bytes */
@@ -116,8 +121,24 @@ int64_t capacity_transfer(uint8_t *sheet, size_t sheet_length, const uint8_t *li
 int64_t capacity_average(uint8_t *sheet, size_t sheet_length, const uint8_t *record, size_t record_length);
 
 /*
+ * Settles the consumers of one month's sheet under the text of 2015: an old act is opened again with it. The sheet is
+ * the same, and the whole of it is tried; the text reads contract volumes, peaks and prices, and knows no credit, no
+ * mining days and no z.
+ *
+ * The answer, if it is above 0, is the count of bytes written to the front of the result buffer: 4 + 17 for each
+ * consumer. Bytes past the result keep what they had.
+ *
+ * If it is below 0, the sheet is turned down: the answer is minus the refusal's number (-CAPACITY_SHORT_BUFFER: the
+ * result buffer is shorter than this result). Every byte of the result buffer keeps what it had.
+ *
+ * The answer is never 0. Any bytes may be handed over as a sheet.
+ */
+int64_t capacity_settle_2015(const uint8_t *sheet, size_t sheet_length, uint8_t *result, size_t result_length);
+
+/*
  * Reading a result. The counts of rows and consumers are the sheet's, at places 12 and 13 of its header; what is read
- * is to lie below them in a result that capacity_settle wrote. Volumes are in tenths of a megawatt, money is in tiyn.
+ * is to lie below them in a result that capacity_settle wrote, and for capacity_read_2015 in one that
+ * capacity_settle_2015 wrote. Volumes are in tenths of a megawatt, money is in tiyn.
  */
 struct capacity_row {
     uint32_t after_cut; /* volume after the cut */
@@ -130,6 +151,13 @@ struct capacity_consumer_line {
     uint32_t percent; /* p, in thousandths */
     uint8_t band;     /* n, in tenths */
     uint64_t volume;  /* actual volume */
+    uint64_t charge;
+};
+
+/* A consumer's line under the text of 2015. */
+struct capacity_line_2015 {
+    uint8_t factor; /* in tenths */
+    uint64_t volume;
     uint64_t charge;
 };
 
@@ -185,6 +213,17 @@ static inline struct capacity_totals capacity_read_totals(const uint8_t *result,
     struct capacity_totals read;
     read.paid = capacity_number(at, 8);
     read.charged = capacity_number(at + 8, 8);
+    return read;
+}
+
+/* Of a result that capacity_settle_2015 wrote. */
+static inline struct capacity_line_2015 capacity_read_2015(const uint8_t *result, size_t consumer)
+{
+    const uint8_t *at = result + 4 + 17 * consumer;
+    struct capacity_line_2015 read;
+    read.factor = at[0];
+    read.volume = capacity_number(at + 1, 8);
+    read.charge = capacity_number(at + 9, 8);
     return read;
 }
 

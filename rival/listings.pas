@@ -1,4 +1,5 @@
-{ The listing, as document 01's section Listing asks for it. }
+{ The listing, as document 01's section Listing asks for it, and that of the 2015 text in
+  the same units and form. }
 unit listings;
 
 {$mode objfpc}{$H+}{$R+}{$Q+}
@@ -6,13 +7,15 @@ unit listings;
 interface
 
 uses
-  sheets, settlements;
+  sheets, settlements, texts2015;
 
 { Figures as text: tenths with one decimal, tiyn as tenge with two. }
 function TenthsText(Tenths: QWord): string;
 function TengeText(Tiyn: QWord): string;
 
 procedure WriteListing(var Paper: Text; const Sheet: TSheet; const Settlement: TSettlement);
+procedure WriteListing2015(var Paper: Text; const Sheet: TSheet;
+  const Settlement: TSettlement2015);
 procedure WriteRefusal(var Paper: Text; Number: Integer);
 
 implementation
@@ -51,6 +54,17 @@ begin
         TenthsText(N), ' ', TenthsText(ActualVolume), ' ', TengeText(Charge), LineFeed);
   Write(Paper, 'T ', TengeText(Settlement.TotalPaid), ' ',
     TengeText(Settlement.TotalCharged), LineFeed);
+end;
+
+procedure WriteListing2015(var Paper: Text; const Sheet: TSheet;
+  const Settlement: TSettlement2015);
+var
+  Number: Integer;
+begin
+  for Number := 0 to Sheet.Header.ConsumerCount - 1 do
+    with Settlement[Number] do
+      Write(Paper, 'C', Number, ' ', TenthsText(Factor), ' ',
+        TenthsText(Volume.Figure), ' ', TengeText(Charge.Figure), LineFeed);
 end;
 
 procedure WriteRefusal(var Paper: Text; Number: Integer);

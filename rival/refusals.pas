@@ -12,6 +12,8 @@ uses
 const
   NotRefused = 0;
   TopCapacity = 100000; { tenths of a megawatt }
+  TopPrice = 200000000; { tiyn per megawatt and month }
+  LowestZ = 10;         { tenths }
 
 { Numbers 1 to 6, which need the header and the count of bytes handed over. }
 function RefusalByHeader(const Header: THeader; BytesHandedOver: Int64): Integer;
@@ -19,20 +21,22 @@ function RefusalByHeader(const Header: THeader; BytesHandedOver: Int64): Integer
 { Numbers 7 to 12, for a sheet that passed 1 to 6 and has been read whole. }
 function RefusalByBody(const Sheet: TSheet; BufferLength: Int64): Integer;
 
+{ The same under the 2015 text, request 4 of document 02: number 7 asks for the size of
+  that text's own result. }
+function RefusalByBody2015(const Sheet: TSheet; BufferLength: Int64): Integer;
+
 { The same without 7, for an entry that has no result buffer: numbers 8 to 12. }
 function RefusalByFigures(const Sheet: TSheet): Integer;
 
 implementation
 
 uses
-  results;
+  results, texts2015;
 
 const
   TheVersion = 1;
   FewestDays = 28;
   TopCoefficient = 1000000;
-  TopPrice = 200000000;
-  LowestZ = 10;
   TopZ = 100;
 
 { Number 4 }
@@ -176,6 +180,12 @@ end;
 function RefusalByBody(const Sheet: TSheet; BufferLength: Int64): Integer;
 begin
   if BufferLength < ResultLength(Sheet.Header) then Exit(7);
+  Result := RefusalByFigures(Sheet);
+end;
+
+function RefusalByBody2015(const Sheet: TSheet; BufferLength: Int64): Integer;
+begin
+  if BufferLength < ResultLength2015(Sheet.Header) then Exit(7);
   Result := RefusalByFigures(Sheet);
 end;
 

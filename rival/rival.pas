@@ -1,12 +1,12 @@
-{ The rival: a second reading of document 01 and of requests 1 and 3 of document 02,
+{ The rival: a second reading of document 01 and of requests 1, 3 and 4 of document 02,
   to compare a proved program with. See README.md for its commands. }
 program rival;
 
 {$mode objfpc}{$H+}{$R+}{$Q+}
 
 uses
-  SysUtils, sheets, refusals, settlements, results, transfers, complexes, listings, traces,
-  marks, transfermarks, complexmarks, bytefiles;
+  SysUtils, sheets, refusals, settlements, results, transfers, complexes, texts2015,
+  listings, traces, marks, transfermarks, complexmarks, marks2015, bytefiles;
 
 const
   MostBytesListed = 65536;    { section Listing: what is handed over of a longer input }
@@ -21,10 +21,12 @@ const
   StatusWrongUse = 2;
 
 var
-  { One sheet at a time, with its settlement, or with a list of transfers or one
-    complex's record and what came of it. }
+  { One sheet at a time, with its settlement under either text, or with a list of
+    transfers or one complex's record and what came of it. }
   Sheet: TSheet;
   Settlement: TSettlement;
+  Settlement2015: TSettlement2015;
+  BufferOfCase: Int64; { the result buffer's length, for the marks of the 2015 text }
   List: TTransferList;
   Transferred: TTransferOutcome;
   Complex: TComplex;
@@ -47,6 +49,16 @@ begin
   Result := RefusalByBody(Sheet, BufferLength);
   if Result <> NotRefused then Exit;
   Settle(Sheet, Settlement);
+end;
+
+{ The same under the 2015 text. }
+function AnswerTo2015(const Bytes: TByteSequence; BufferLength: Int64): Integer;
+begin
+  Result := ReadSheet(Bytes);
+  if Result <> NotRefused then Exit;
+  Result := RefusalByBody2015(Sheet, BufferLength);
+  if Result <> NotRefused then Exit;
+  Settle2015(Sheet, Settlement2015);
 end;
 
 { The sheet's own numbers where it is to be changed: there is no result buffer, so
@@ -118,6 +130,17 @@ begin
     WriteListing(Output, Sheet, Settlement);
 end;
 
+procedure ListSheet2015(const Bytes: TByteSequence);
+var
+  Refusal: Integer;
+begin
+  Refusal := AnswerTo2015(Bytes, LargeEnough);
+  if Refusal <> NotRefused then
+    WriteRefusal(Output, Refusal)
+  else
+    WriteListing2015(Output, Sheet, Settlement2015);
+end;
+
 procedure TraceSheet(const Bytes: TByteSequence);
 var
   Refusal: Integer;
@@ -148,6 +171,17 @@ begin
     WriteLn('refusal ', Refusal)
   else
     PrintBytes(ResultBytes(Sheet, Settlement));
+end;
+
+procedure SettleSheet2015(const Bytes: TByteSequence; BufferLength: Int64);
+var
+  Refusal: Integer;
+begin
+  Refusal := AnswerTo2015(Bytes, BufferLength);
+  if Refusal <> NotRefused then
+    WriteLn('refusal ', Refusal)
+  else
+    PrintBytes(ResultBytes2015(Sheet, Settlement2015));
 end;
 
 procedure ChangeSheet(Change: TChange; const Bytes, SecondBytes: TByteSequence);
@@ -246,6 +280,15 @@ begin
     Result := MarksText(Sheet, Settlement);
 end;
 
+{ Document 01's settlement is taken too, for what the two texts see differently. }
+function SheetMarks2015(Refusal: Integer): string;
+begin
+  if Refusal <> NotRefused then
+    Exit(RefusalMarks2015(Sheet.Header, Refusal, BufferOfCase));
+  Settle(Sheet, Settlement);
+  Result := MarksText2015(Sheet, Settlement, Settlement2015, BufferOfCase);
+end;
+
 function TransferMarks(Refusal: Integer): string;
 begin
   if Refusal in ListNumbers + [NotRefused] then
@@ -278,6 +321,17 @@ begin
   if not Result then Exit;
   Refusal := AnswerTo(Bytes, BufferLength);
   if Refusal = NotRefused then Answer := ResultBytes(Sheet, Settlement);
+end;
+
+function Settle2015Next(var Source: file; out Refusal: Integer;
+  out Answer: TByteSequence): Boolean;
+var
+  Bytes: TByteSequence;
+begin
+  Result := NextCase(Source, Bytes, BufferOfCase);
+  if not Result then Exit;
+  Refusal := AnswerTo2015(Bytes, BufferOfCase);
+  if Refusal = NotRefused then Answer := ResultBytes2015(Sheet, Settlement2015);
 end;
 
 function ChangeNext(var Source: file; Change: TChange; out Refusal: Integer;
@@ -324,17 +378,21 @@ end;
 
 procedure WrongUse;
 begin
-  WriteLn(StdErr, 'usage: rival list [FILE]          the listing of one sheet');
-  WriteLn(StdErr, '       rival settle FILE [BUFFER] the result''s bytes in hex');
-  WriteLn(StdErr, '       rival trace FILE           the figures in between');
-  WriteLn(StdErr, '       rival batch IN OUT         the results of many sheets');
-  WriteLn(StdErr, '       rival marks IN OUT         the corners many sheets reach');
-  WriteLn(StdErr, '       rival transfer SHEET LIST  the changed sheet''s bytes in hex');
-  WriteLn(StdErr, '       rival transfers IN OUT     the changed sheets of many cases');
-  WriteLn(StdErr, '       rival transfermarks IN OUT the corners many lists reach');
-  WriteLn(StdErr, '       rival average SHEET RECORD the changed sheet''s bytes in hex');
-  WriteLn(StdErr, '       rival averages IN OUT      the changed sheets of many cases');
-  WriteLn(StdErr, '       rival averagemarks IN OUT  the corners many records reach');
+  WriteLn(StdErr, 'usage: rival list [FILE]              the listing of one sheet');
+  WriteLn(StdErr, '       rival settle FILE [BUFFER]     the result''s bytes in hex');
+  WriteLn(StdErr, '       rival trace FILE               the figures in between');
+  WriteLn(StdErr, '       rival batch IN OUT             the results of many sheets');
+  WriteLn(StdErr, '       rival marks IN OUT             the corners many sheets reach');
+  WriteLn(StdErr, '       rival transfer SHEET LIST      the changed sheet''s bytes in hex');
+  WriteLn(StdErr, '       rival transfers IN OUT         the changed sheets of many cases');
+  WriteLn(StdErr, '       rival transfermarks IN OUT     the corners many lists reach');
+  WriteLn(StdErr, '       rival average SHEET RECORD     the changed sheet''s bytes in hex');
+  WriteLn(StdErr, '       rival averages IN OUT          the changed sheets of many cases');
+  WriteLn(StdErr, '       rival averagemarks IN OUT      the corners many records reach');
+  WriteLn(StdErr, '       rival list2015 [FILE]          the listing under the 2015 text');
+  WriteLn(StdErr, '       rival settle2015 FILE [BUFFER] that result''s bytes in hex');
+  WriteLn(StdErr, '       rival batch2015 IN OUT         those results of many sheets');
+  WriteLn(StdErr, '       rival marks2015 IN OUT         the corners of it many sheets reach');
   Halt(StatusWrongUse);
 end;
 
@@ -390,6 +448,18 @@ begin
     AnswerCases(ParamStr(2), ParamStr(3), @AverageNext, nil)
   else if (Command = 'averagemarks') and (ParamCount = 3) then
     AnswerCases(ParamStr(2), ParamStr(3), @AverageNext, @AverageMarks)
+  else if (Command = 'list2015') and (ParamCount = 1) then
+    ListSheet2015(StandardInputBytes(MostBytesListed))
+  else if (Command = 'list2015') and (ParamCount = 2) then
+    ListSheet2015(FileBytes(ParamStr(2), MostBytesListed))
+  else if (Command = 'settle2015') and (ParamCount = 2) then
+    SettleSheet2015(FileBytes(ParamStr(2), NoLimit), DefaultBuffer)
+  else if (Command = 'settle2015') and (ParamCount = 3) then
+    SettleSheet2015(FileBytes(ParamStr(2), NoLimit), BufferFrom(ParamStr(3)))
+  else if (Command = 'batch2015') and (ParamCount = 3) then
+    AnswerCases(ParamStr(2), ParamStr(3), @Settle2015Next, nil)
+  else if (Command = 'marks2015') and (ParamCount = 3) then
+    AnswerCases(ParamStr(2), ParamStr(3), @Settle2015Next, @SheetMarks2015)
   else
     WrongUse;
 end;

@@ -1,9 +1,9 @@
 """A month's sheet as records and as bytes, the entries of a list of transfers, the record of an industrial complex, and
 the figures of a result.
 
-Layout and limits are those of document 01: "Units and the sheet", "Result" and "When a sheet is turned down"; of a list
-and of a complex those of requests 1 and 3 of document 02. Capacities, powers, volumes, peaks and amounts are in tenths
-of a megawatt, prices in tiyn, coefficients in millionths.
+Layout and limits are those of document 01: "Units and the sheet", "Result" and "When a sheet is turned down"; of a
+list, of a complex and of a result under the text of 2015 those of requests 1, 3 and 4 of document 02. Capacities,
+powers, volumes, peaks and amounts are in tenths of a megawatt, prices in tiyn, coefficients in millionths.
 """
 import struct
 import sys
@@ -465,3 +465,28 @@ def field_at(sheet, place):
             return name
         place -= width
     return "past the result"
+
+
+# ------------------------------------------------------------------ results under the text of 2015
+
+
+def result_2015_length(consumers):
+    """The bytes of a result under the text of 2015 with so many consumers."""
+    return 4 + 17 * consumers
+
+
+class Figures2015(NamedTuple):
+    factor: int
+    volume: int
+    charge: int
+
+
+def result_2015_figures(result):
+    """The consumers' figures of a result under the text of 2015: factor in tenths, volume, charge."""
+    return [Figures2015(*figures) for figures in struct.iter_unpack(">B2Q", result[4:])]
+
+
+def result_2015_of(consumers):
+    """The bytes of a result under the text of 2015 with these figures."""
+    return b"".join((struct.pack(">I", result_2015_length(len(consumers))),
+                     *(struct.pack(">B2Q", *figures) for figures in consumers)))

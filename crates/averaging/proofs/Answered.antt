@@ -12,21 +12,21 @@ use Rattle.rules.specs.Outcome.{refused, written}
 use Rattle.rules.specs.ComplexRecord.{recordWidth, complex}
 use Rattle.rules.specs.Averaging.{complexPeak, recordTests, averageTests, averageRefusal, averageOutcome, peakWritten, averaged}
 use Rattle.laws.proofs.Refusals.{sheet-limits}
-use Rattle.laws.proofs.Changed as Changed
+use Rattle.laws.proofs.Answers as Answers
 use Rattle.laws.proofs.Averaging.{record-limits}
 
 module _ (s r : List ℕ) where
   -- The sheet's own number.
   pub own-refused : {n : ℕ} → n ≡ firstOf (sheetTests s) → (n ≡ 0 → ⊥) → (refused n ≡ averageOutcome s r) × (s ≡ averaged s r)
   unfolding averageOutcome averaged averageRefusal averageTests
-  own-refused e p = Changed.own-refused s (recordTests (headerOf s) r) (peakWritten s r) e p
+  own-refused e p = Answers.own-refused s (recordTests (headerOf s) r) (peakWritten s r) e p
 
   -- Where it has none.
   module _ (own : firstOf (sheetTests s) ≡ 0) {layout : Layout} (el : layout ≡ layoutOf s) where
     -- 16 or 17.
     pub record-refused : {n : ℕ} → n ≡ firstOf (recordTests (layout .header) r) → (n ≡ 0 → ⊥) → (refused n ≡ averageOutcome s r) × (s ≡ averaged s r)
     unfolding averageOutcome averaged averageRefusal averageTests
-    record-refused e p = Changed.rest-refused s (recordTests (headerOf s) r) (peakWritten s r) own (e ∙ rw el) p
+    record-refused e p = Answers.rest-refused s (recordTests (headerOf s) r) (peakWritten s r) own (e ∙ rw el) p
 
     -- Where neither applies.
     module _ (good : firstOf (recordTests (layout .header) r) ≡ 0) where
@@ -44,5 +44,5 @@ module _ (s r : List ℕ) where
           → (written 0 ≡ averageOutcome s r) × (t ≡ averaged s r)
       unfolding averageOutcome averaged averageRefusal averageTests peakWritten
       written-there ec ep et =
-          let done = Changed.none-refused s (recordTests (headerOf s) r) (withPeak (layoutOf s) (complex r) (complexPeak (headerOf s) r) s) own (sym (ap (λ (l : Layout). firstOf (recordTests (l .header) r)) (sym el) ∙ good)) refl in
+          let done = Answers.none-refused s (recordTests (headerOf s) r) (withPeak (layoutOf s) (complex r) (complexPeak (headerOf s) r) s) own (sym (ap (λ (l : Layout). firstOf (recordTests (l .header) r)) (sym el) ∙ good)) refl in
           (done .0, et ∙ rw (ec, ep, el) (done .1))

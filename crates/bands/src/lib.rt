@@ -1,23 +1,31 @@
-// The band table, and the thousandths that it is read by.
+// The band tables, and the parts of a reference that they are read by.
 ghost use mathlib.Core.Path.{_≡_};
-ghost use Rattle.rules.specs.Bands.{thousandths, factorOf, bandOf};
+ghost use Rattle.rules.specs.Bands.{partsOf, thousandths, factorOf, bandOf};
+ghost use Rattle.rules.specs.Text2015.{bands2015};
 use rules::Band;
 use units::nearest;
 
-// An excess in thousandths of a reference; over a reference of 0 any excess is past the fourth band.
-pub fn thousandths(excess: u32, reference: u32) -> u64
-    ensures { λ r. ⌜ r ≡ thousandths excess reference ⌝ }
+// An excess in parts of a reference, so many to a whole; over a reference of 0 any excess is the figure that is given for it.
+pub fn parts_of(whole: u32, beyond: u64, excess: u32, reference: u32) -> u64
+    ensures { λ r. ⌜ r ≡ partsOf whole beyond excess reference ⌝ }
 {
     if reference == 0 {
         if excess == 0 {
             return 0;
         }
-        return 501;
+        return beyond;
     }
-    nearest(excess as u64 * 1000, reference as u64)
+    nearest(excess as u64 * whole as u64, reference as u64)
 }
 
-// The band table. The last row is open above: its edge is not looked at.
+// An excess in thousandths of a reference; over a reference of 0 any excess is past the fourth band.
+pub fn thousandths(excess: u32, reference: u32) -> u64
+    ensures { λ r. ⌜ r ≡ thousandths excess reference ⌝ }
+{
+    parts_of(1000, 501, excess, reference)
+}
+
+// The band table of document 01, in thousandths. The last row is open above: its edge is not looked at.
 pub const BANDS: [Band; 5] = [
     Band {
         edge: 50,
@@ -41,6 +49,30 @@ pub const BANDS: [Band; 5] = [
     },
 ];
 
+// The band table of the text of 2015, in hundredths of a percent. A table has five rows here, so the last one, open above, stands twice.
+pub const BANDS_2015: [Band; 5] = [
+    Band {
+        edge: 500,
+        factor: 10,
+    },
+    Band {
+        edge: 1000,
+        factor: 11,
+    },
+    Band {
+        edge: 2000,
+        factor: 12,
+    },
+    Band {
+        edge: 4294967295,
+        factor: 15,
+    },
+    Band {
+        edge: 4294967295,
+        factor: 15,
+    },
+];
+
 // The factor that a table gives p: that of the first row whose edge p does not pass, past all others the last row's.
 pub fn factor_of(table: [Band; 5], p: u64) -> u8
     ensures { λ r. ⌜ r ≡ factorOf table p ⌝ }
@@ -56,9 +88,16 @@ pub fn factor_of(table: [Band; 5], p: u64) -> u8
     table[4].factor
 }
 
-// The factor of p thousandths in the band table.
+// The factor of p thousandths in the band table of document 01.
 pub fn factor(p: u64) -> u8
     ensures { λ r. ⌜ r ≡ bandOf p ⌝ }
 {
     factor_of(BANDS, p)
+}
+
+// The factor of p hundredths of a percent in the band table of the text of 2015.
+pub fn factor_2015(p: u64) -> u8
+    ensures { λ r. ⌜ r ≡ factorOf bands2015 p ⌝ }
+{
+    factor_of(BANDS_2015, p)
 }

@@ -3,6 +3,7 @@ use mathlib.Core.Path.{_≡_, refl, ap, _∙_}
 use mathlib.Core.Bool.{Bool, true, false, cond}
 use mathlib.Core.List.{List}
 use Prim.Native.Nat.{ℕ, zero, suc, _≤_, _<_}
+use native.Mathlib.Nat.{le-trans}
 use native.Mathlib.Omega.{arith}
 use borrow.Author.Tests.{eqb-true}
 use lib.Dec.{eqb}
@@ -14,9 +15,12 @@ use mir.Facts.{toZ-ofZ, toZ-pos}
 use Rattle.rules.specs.Sheet.{headerOf, monthOf}
 use Rattle.rules.specs.Refusals.{refusal}
 use Rattle.rules.specs.Result.{resultLength}
-use Rattle.rules.specs.Outcome.{Outcome, refused, written, outcome, done}
-use Rattle.laws.proofs.Refusals.{limits}
+use Rattle.rules.specs.Outcome.{Outcome, refused, written, answered, outcome}
+use Rattle.rules.specs.Result2015.{length2015}
+use Rattle.rules.specs.Outcome2015.{tests2015, refusal2015, outcome2015}
+use Rattle.laws.proofs.Refusals.{limits, limits-for}
 use Rattle.laws.proofs.Figures.{length-le}
+use Rattle.laws.proofs.Text2015.{length-2015-le}
 use Rattle.capacity.specs.InC.{inC, counted, countEnd}
 
 -- Minus a byte's number fits, and so does a count below half of all numbers.
@@ -40,30 +44,32 @@ number-back n l = toZ-ofZ (number-fits n l) ∙ less n l
 pub count-back : (n : ℕ) → n < countEnd → toZ w64 n ≡ inC (written n)
 count-back n l = toZ-pos w64 {n = n} (omega arith)
 
--- No count of a settlement is above 1,333.
-count-le : (s : List ℕ) (room : ℕ) → counted (outcome s room) ≤ 1333
-unfolding outcome
-count-le s room = go (eqb (refusal s room) 0) refl
+-- An entry may hand its answer over where its count is small; 1,333 is that of the largest result.
+count-le : (number count : ℕ) → (number ≡ 0 → count ≤ 1333) → counted (answered number count) ≤ 1333
+unfolding answered
+count-le number count few = go (eqb number 0) refl
   where
-    go : (b : Bool) → eqb (refusal s room) 0 ≡ b → counted (cond b (written (resultLength (headerOf s))) (refused (refusal s room))) ≤ 1333
-    go true q = length-le (monthOf s) (limits s room (eqb-true _ _ q) .month)
+    go : (b : Bool) → eqb number 0 ≡ b → counted (cond b (written count) (refused number)) ≤ 1333
+    go true q = few (eqb-true _ _ q)
     go false q = omega arith
 
--- So an entry may hand a settlement's answer over.
-pub count-small : (s : List ℕ) (room : ℕ) {o : Outcome} → o ≡ outcome s room → counted o < countEnd
-count-small s room e = omega (arith, ap counted e, count-le s room)
+pub count-small : (number count : ℕ) → (number ≡ 0 → count ≤ 1333) → {o : Outcome} → o ≡ answered number count → counted o < countEnd
+count-small number count few e = omega (arith, ap counted e, count-le number count few)
 
--- An entry that writes no result counts no bytes.
-count-none : (number : ℕ) → counted (done number) ≡ 0
-unfolding done
-count-none number = go (eqb number 0)
-  where
-    go : (b : Bool) → counted (cond b (written 0) (refused number)) ≡ 0
-    go true = refl
-    go false = refl
+-- A settlement's count, and that of an entry that writes no result.
+pub settled-small : (s : List ℕ) (room : ℕ) {o : Outcome} → o ≡ outcome s room → counted o < countEnd
+unfolding outcome
+settled-small s room e =
+    count-small (refusal s room) (resultLength (headerOf s)) (λ z. length-le (monthOf s) (limits s room z .month)) e
 
-pub done-small : (number : ℕ) {o : Outcome} → o ≡ done number → counted o < countEnd
-done-small number e = omega (arith, ap counted e, count-none number)
+pub settled-2015-small : (s : List ℕ) (room : ℕ) {o : Outcome} → o ≡ outcome2015 s room → counted o < countEnd
+unfolding outcome2015 refusal2015 tests2015
+settled-2015-small s room e =
+    count-small (refusal2015 s room) (length2015 (headerOf s))
+    (λ z. le-trans (length-2015-le (headerOf s) (limits-for (length2015 (headerOf s)) s room z .form .header)) (omega arith)) e
+
+pub done-small : (number : ℕ) {o : Outcome} → o ≡ answered number 0 → counted o < countEnd
+done-small number e = count-small number 0 (λ z. omega arith) e
 
 -- What an entry gets back is the outcome's number.
 pub handed-on : {z : ℤ} {o p : Outcome} → mag z < countEnd → z ≡ inC o → o ≡ p → toZ w64 (ofZ w64 z) ≡ inC p

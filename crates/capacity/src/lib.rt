@@ -6,10 +6,12 @@ ghost use Rattle.rules.specs.Outcome.{outcome, bufferAfter};
 ghost use Rattle.rules.specs.Said.{said};
 ghost use Rattle.rules.specs.Transfers.{transferOutcome, transferred};
 ghost use Rattle.rules.specs.Averaging.{averageOutcome, averaged};
+ghost use Rattle.rules.specs.Outcome2015.{outcome2015, bufferAfter2015};
 ghost use Rattle.capacity.specs.InC.{inC, counted, countEnd};
 use averaging::average;
 use rules::Answer;
 use settlement::settle;
+use text2015::settle_2015;
 use transfers::transfer;
 
 // An answer as one number for C. Every entry that gets an Answer hands it over here.
@@ -48,4 +50,13 @@ pub extern "C" fn capacity_average(sheet: &mut [u8], rec: &[u8]) -> i64
     ensures sheet { λ r. ⌜ now (sheet .exit) ≡ averaged (now (sheet .entry)) (now (rec .entry)) ⌝ }
 {
     in_c(average(sheet, rec))
+}
+
+// Consumers under the text of 2015: the count of bytes written, or minus the refusal's number.
+#[no_mangle]
+pub extern "C" fn capacity_settle_2015(sheet: &[u8], result: &mut [u8]) -> i64
+    ensures { λ r. ⌜ r ≡ inC (outcome2015 (now (sheet .entry)) (length (now (result .entry)))) ⌝ }
+    ensures buffer { λ r. ⌜ now (result .exit) ≡ bufferAfter2015 (now (sheet .entry)) (now (result .entry)) ⌝ }
+{
+    in_c(settle_2015(sheet, result))
 }

@@ -10,9 +10,10 @@ pub mod Fields
 pub mod Written
 pub mod Sheet
 pub mod Refusals
-pub mod Changed
+pub mod Answers
 pub mod Transfers
 pub mod Averaging
 pub mod Figures
 pub mod ControlHours
 pub mod ControlTable
+pub mod Text2015

@@ -19,8 +19,8 @@ use Rattle.rules.specs.Month.{Producer, Month, hours}
 use Rattle.rules.specs.declared.Layout.{Layout}
 use Rattle.rules.specs.Sheet.{headerOf, layoutOf, monthOf, hoursWidth, hoursAt}
 use Rattle.rules.specs.Result.{resultLength}
-use Rattle.rules.specs.Refusals.{oneOf, badMonth, tooMany, badShare, tooHigh, highHour, highProducer, highRow, highConsumer, badReference, tooDear, badFactor, Test, frontTests, headerTests, formTests, roomTests, figureTests, sheetTests, tests, applies, firstOf, refusal}
-use Rattle.rules.specs.Limits.{HeaderLimits, ProducerLimits, RowLimits, ConsumerLimits, MonthLimits, FormLimits, SheetLimits}
+use Rattle.rules.specs.Refusals.{oneOf, badMonth, tooMany, badShare, tooHigh, highHour, highProducer, highRow, highConsumer, badReference, tooDear, badFactor, Test, frontTests, headerTests, formTests, roomTests, figureTests, sheetTests, testsFor, tests, applies, firstOf, refusal}
+use Rattle.rules.specs.Limits.{HeaderLimits, ProducerLimits, RowLimits, ConsumerLimits, MonthLimits, FormLimits, LimitsFor, SheetLimits}
 use Rattle.rules.specs.Outcome.{Accepted, hoursStretch}
 use Rattle.laws.proofs.Sheet.{hours-inside}
 use Rattle.laws.proofs.Range.{or-left, or-right, any-clear, any-none}
@@ -279,9 +279,9 @@ pub header-numbered : (l : Layout) (bytes : ℕ) → T (numbered (headerTests l 
 unfolding headerTests
 header-numbered l bytes = tt
 
-pub room-numbered : (h : Header) (room : ℕ) → T (numbered (roomTests h room))
+pub room-numbered : (needed room : ℕ) → T (numbered (roomTests needed room))
 unfolding roomTests
-room-numbered h room = tt
+room-numbered needed room = tt
 
 pub form-numbered : (s : List ℕ) → T (numbered (formTests s))
 unfolding frontTests headerTests formTests
@@ -351,42 +351,52 @@ module _ (m : Month) where
         ),
       )
 
--- Number 7, and all together: the limits are what acceptance means.
-module _ (s : List ℕ) (room : ℕ) where
+-- Number 7, of a result of so many bytes and a buffer of so many.
+module _ (needed room : ℕ) where
+  pub room-limit : firstOf (roomTests needed room) ≡ 0 → needed ≤ room
+  unfolding roomTests applies
+  room-limit e = ltb-false _ _ (none-applies (roomTests needed room) (room-numbered needed room) e 7)
+
+  room-clear : needed ≤ room → firstOf (roomTests needed room) ≡ 0
+  unfolding roomTests
+  room-clear l = all-clear _ (le-ltb _ _ l, tt)
+
+-- All together: the limits are what acceptance means.
+module _ (needed : ℕ) (s : List ℕ) (room : ℕ) where
   before-figures : List Test
-  before-figures = formTests s ++ roomTests (headerOf s) room
+  before-figures = formTests s ++ roomTests needed room
 
   before-numbered : T (numbered before-figures)
   unfolding before-figures frontTests headerTests formTests roomTests
   before-numbered = tt
 
-  room-limit : firstOf (roomTests (headerOf s) room) ≡ 0 → resultLength (headerOf s) ≤ room
-  unfolding roomTests applies
-  room-limit e =
-      let c : (n : ℕ) → applies n (roomTests (headerOf s) room) ≡ false = none-applies (roomTests (headerOf s) room) tt e in
-      ltb-false _ _ (c 7)
-
-  room-clear : resultLength (headerOf s) ≤ room → firstOf (roomTests (headerOf s) room) ≡ 0
-  unfolding roomTests
-  room-clear l = all-clear _ (le-ltb _ _ l, tt)
-
-  pub limits : Accepted s room → SheetLimits s room
-  unfolding refusal tests before-figures
-  limits a =
+  pub limits-for : firstOf (testsFor needed s room) ≡ 0 → LimitsFor needed s room
+  unfolding testsFor before-figures
+  limits-for a =
       let x = first-both before-figures (figureTests (monthOf s)) before-numbered a in
-      let y = first-both (formTests s) (roomTests (headerOf s) room) (form-numbered s) (x .0) in
+      let y = first-both (formTests s) (roomTests needed room) (form-numbered s) (x .0) in
       record {
         form = form-limits s (y .0);
-        enough-room = room-limit (y .1);
+        enough-room = room-limit needed room (y .1);
         month = month-limits (monthOf s) (form-limits s (y .0) .header) (x .1);
       }
 
-  pub accepted : SheetLimits s room → Accepted s room
-  unfolding refusal tests before-figures
-  accepted l =
+  pub for-limits : LimitsFor needed s room → firstOf (testsFor needed s room) ≡ 0
+  unfolding testsFor before-figures
+  for-limits l =
       both-first before-figures (figureTests (monthOf s)) before-numbered
-      (both-first (formTests s) (roomTests (headerOf s) room) (form-numbered s) (form-clear s (l .form)) (room-clear (l .enough-room)))
+      (both-first (formTests s) (roomTests needed room) (form-numbered s) (form-clear s (l .form)) (room-clear needed room (l .enough-room)))
       (month-figures-clear (monthOf s) (l .month))
+
+-- Of the settlement.
+module _ (s : List ℕ) (room : ℕ) where
+  pub limits : Accepted s room → SheetLimits s room
+  unfolding refusal tests
+  limits a = limits-for (resultLength (headerOf s)) s room a
+
+  pub accepted : SheetLimits s room → Accepted s room
+  unfolding refusal tests
+  accepted l = for-limits (resultLength (headerOf s)) s room l
 
 -- The sheet's own numbers, all but 7.
 pub sheet-numbered : (s : List ℕ) → T (numbered (sheetTests s))

@@ -1,4 +1,4 @@
-// The listing: a settlement's figures as lines of text, read back from the result's bytes.
+// The listing: a settlement's figures as lines of text, read back from the result's bytes; and that under the text of 2015.
 ghost use mathlib.Core.Path.{_≡_};
 ghost use Prim.Native.Nat.{_≤_};
 ghost use Rattle.rules.specs.Outcome.{outcome};
@@ -10,8 +10,10 @@ use settlement::settle;
 use sheet::header;
 
 mod line;
+mod text_2015;
 
 use line::Line;
+pub use text_2015::list_2015;
 
 // Where the record after so many rows and consumers begins.
 fn record_at(rows: u8, consumers: u8) -> usize
@@ -21,7 +23,7 @@ fn record_at(rows: u8, consumers: u8) -> usize
 }
 
 // The number in eight bytes.
-fn long(s: &[u8], at: usize) -> u64
+pub(crate) fn long(s: &[u8], at: usize) -> u64
     requires { ⌜ at ≤ 65536 ⌝ }
 {
     (word(s, at) as u64) * 4294967296 + (word(s, at + 4) as u64)

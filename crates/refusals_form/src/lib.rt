@@ -5,7 +5,6 @@ ghost use Rattle.rules.specs.Refusals.{badMonth, tooMany, frontTests, headerTes
 use calendar::holiday_past;
 use fields::byte;
 use fields::word;
-use places::result_length;
 use places::sheet_length;
 use rules::Header;
 use rules::Layout;
@@ -65,9 +64,9 @@ pub fn form_refusal(s: &[u8]) -> u8
     header_refusal(layout(s), word(s, 0) as usize)
 }
 
-// 7 where the result does not fit into a buffer of so many bytes, otherwise 0.
-pub fn room_refusal(h: Header, room: usize) -> u8
-    ensures { λ r. ⌜ r ≡ firstOf (roomTests h room) ⌝ }
+// 7 where a result of so many bytes does not fit into a buffer of so many, otherwise 0.
+pub fn room_refusal(needed: usize, room: usize) -> u8
+    ensures { λ r. ⌜ r ≡ firstOf (roomTests needed room) ⌝ }
 {
-    first(7, room < result_length(h), 0)
+    first(7, room < needed, 0)
 }

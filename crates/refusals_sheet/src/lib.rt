@@ -1,11 +1,12 @@
-// The numbers of a whole sheet: all but 7, and 4 to 12 of a month under a layout. Each record is read once.
+// The numbers of a whole sheet: all but 7, all with a result's room, and 4 to 12 of a month under a layout. Each record is read once.
 ghost use mathlib.Core.Path.{_≡_};
 ghost use Prim.Native.Nat.{_≤_};
 ghost use lib.ListN.{length};
 ghost use Rattle.rules.specs.Sheet.{sheetLength, monthUnder};
-ghost use Rattle.rules.specs.Refusals.{figureTests, sheetTests, firstOf};
+ghost use Rattle.rules.specs.Refusals.{figureTests, sheetTests, testsFor, firstOf};
 ghost use Rattle.refusals_sheet.specs.Tests.{producerTests, rowTests, consumerTests};
 ghost use Rattle.refusals_sheet.specs.Numbers.{monthNumber};
+use places::result_length;
 use refusals_form::first;
 use refusals_form::form_refusal;
 use refusals_form::header_refusal;
@@ -128,6 +129,21 @@ pub fn sheet_refusal(s: &[u8]) -> u8
     figure_refusal(s, layout(s))
 }
 
+// The first number that applies to a sheet, for an entry with a result of so many bytes and a result buffer of so many; 0 where none does.
+pub fn result_refusal(s: &[u8], needed: usize, room: usize) -> u8
+    ensures { λ r. ⌜ r ≡ firstOf (testsFor needed (now (s .entry)) room) ⌝ }
+{
+    let form = form_refusal(s);
+    if form != 0 {
+        return form;
+    }
+    let short = room_refusal(needed, room);
+    if short != 0 {
+        return short;
+    }
+    figure_refusal(s, layout(s))
+}
+
 // The first of the numbers 4 to 12 that applies to the month that a layout puts into a sheet, for a result buffer of so many bytes; 0
 // where none does.
 pub fn month_refusal(s: &[u8], layout: Layout, room: usize) -> u8
@@ -137,7 +153,7 @@ pub fn month_refusal(s: &[u8], layout: Layout, room: usize) -> u8
     if header != 0 {
         return header;
     }
-    let short = room_refusal(layout.header, room);
+    let short = room_refusal(result_length(layout.header), room);
     if short != 0 {
         return short;
     }

@@ -10,7 +10,7 @@ use Rattle.rules.specs.Month.{Header, Consumer, Month, hours, withConsum
 use Rattle.rules.specs.ControlHours.{controlAverage}
 use Rattle.rules.specs.Sheet.{headerOf, layoutOf, withPeak}
 use Rattle.rules.specs.Refusals.{oneOf, tooHigh, Test, test, sheetTests, firstOf}
-use Rattle.rules.specs.Outcome.{Outcome, done, sheetAfter}
+use Rattle.rules.specs.Outcome.{Outcome, answered, lentAfter}
 use Rattle.rules.specs.ComplexRecord.{recordFront, recordWidth, recordLength, complex, imported, drawn, sent}
 
 -- 16: no whole front; a length field that is wrong about the bytes, or is not the one that the month asks for; no such consumer.
@@ -54,7 +54,7 @@ averageRefusal s r = firstOf (averageTests s r)
 
 -- What is answered.
 unfoldable pub averageOutcome : List ℕ → List ℕ → Outcome
-averageOutcome s r = done (averageRefusal s r)
+averageOutcome s r = answered (averageRefusal s r) 0
 
 -- The sheet with the complex's peak in that consumer's field.
 unfoldable pub peakWritten : List ℕ → List ℕ → List ℕ
@@ -62,7 +62,7 @@ peakWritten s r = withPeak (layoutOf s) (complex r) (complexPeak (headerOf s) r)
 
 -- The sheet afterwards: with that peak; after a refusal as it was.
 unfoldable pub averaged : List ℕ → List ℕ → List ℕ
-averaged s r = sheetAfter (averageRefusal s r) (peakWritten s r) s
+averaged s r = lentAfter (averageRefusal s r) (peakWritten s r) s
 
 -- A consumer with another peak.
 abbrev pub atPeak : Consumer → ℕ → Consumer

@@ -20,6 +20,9 @@ pub mod TransferList
 pub mod Transfers
 pub mod ComplexRecord
 pub mod Averaging
+pub mod Text2015
+pub mod Result2015
+pub mod Outcome2015
 pub mod Samples
 pub mod Open
 pub mod CheckedMonths
@@ -30,3 +33,4 @@ pub mod PlaceCases
 pub mod TransferCases
 pub mod TableCases
 pub mod AveragingCases
+pub mod Text2015Cases

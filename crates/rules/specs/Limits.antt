@@ -69,8 +69,12 @@ pub record FormLimits (s : List ℕ) : Type 0 where
   pub header : HeaderLimits (headerOf s)
   pub length-right : lengthField s ≡ sheetLength (layoutOf s)
 
--- All numbers, of a sheet and a result buffer of so many bytes; number 7 is enough-room.
-pub record SheetLimits (s : List ℕ) (room : ℕ) : Type 0 where
+-- All numbers, of a sheet, a result of so many bytes and a result buffer of so many; number 7 is enough-room.
+pub record LimitsFor (needed : ℕ) (s : List ℕ) (room : ℕ) : Type 0 where
   pub form : FormLimits s
-  pub enough-room : resultLength (headerOf s) ≤ room
+  pub enough-room : needed ≤ room
   pub month : MonthLimits (monthOf s)
+
+-- Those of the settlement.
+abbrev pub SheetLimits : List ℕ → ℕ → Type 0
+SheetLimits s room = LimitsFor (resultLength (headerOf s)) s room

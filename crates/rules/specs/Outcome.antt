@@ -19,24 +19,22 @@ pub data Outcome : Type 0 where
 abbrev pub Accepted : List ℕ → ℕ → Type 0
 Accepted s room = refusal s room ≡ 0
 
+-- An entry's answer: the first number that applies, or where none does (0) a count of bytes. [When a sheet is turned down]
+unfoldable pub answered : ℕ → ℕ → Outcome
+answered number count = cond (eqb number 0) (written count) (refused number)
+
+-- A lent buffer after an entry: what the entry makes of it; after a refusal what was there. [When a sheet is turned down]
+unfoldable pub lentAfter : ℕ → List ℕ → List ℕ → List ℕ
+lentAfter number changed before = cond (eqb number 0) changed before
+
 -- What a sheet is answered: the first number that applies, or the length of its result. [Result; When a sheet is turned down]
 unfoldable pub outcome : List ℕ → ℕ → Outcome
-outcome s room =
-    cond (eqb (refusal s room) 0) (written (resultLength (headerOf s))) (refused (refusal s room))
+outcome s room = answered (refusal s room) (resultLength (headerOf s))
 
 -- The result buffer afterwards: the result from its beginning, and past it what was there; after a refusal all of what was there.
 -- [Result; When a sheet is turned down]
 unfoldable pub bufferAfter : List ℕ → List ℕ → List ℕ
-bufferAfter s out =
-    cond (eqb (refusal s (length out)) 0) (over (resultOf (monthOf s)) out) out
-
--- The answer of an entry that writes no result: the first number that applies, or a count of 0. [Requests, 1 and 3]
-unfoldable pub done : ℕ → Outcome
-done number = cond (eqb number 0) (written 0) (refused number)
-
--- The sheet after an entry that changes it: what the entry makes of it; after a refusal what it was. [Requests, 1 and 3]
-unfoldable pub sheetAfter : ℕ → List ℕ → List ℕ → List ℕ
-sheetAfter number changed s = cond (eqb number 0) changed s
+bufferAfter s out = lentAfter (refusal s (length out)) (over (resultOf (monthOf s)) out) out
 
 -- A stretch of a sheet: its place and its length. [Units and the sheet]
 pub record Stretch : Type 0 where

@@ -132,9 +132,9 @@ headerTests l bytes =
 unfoldable pub formTests : List ℕ → List Test
 formTests s = frontTests s ++ headerTests (layoutOf s) (lengthField s)
 
--- 7, the room: the result does not fit into the result buffer.
-unfoldable pub roomTests : Header → ℕ → List Test
-roomTests h room = test 7 (ltb room (resultLength h)) ∷ []
+-- 7, the room: a result of so many bytes does not fit into the result buffer.
+unfoldable pub roomTests : ℕ → ℕ → List Test
+roomTests needed room = test 7 (ltb room needed) ∷ []
 
 -- 8 to 12: the figures.
 unfoldable pub figureTests : Month → List Test
@@ -150,9 +150,13 @@ figureTests m =
 unfoldable pub sheetTests : List ℕ → List Test
 sheetTests s = formTests s ++ figureTests (monthOf s)
 
--- All of them in their order, for a result buffer of so many bytes.
+-- All of them in their order, for an entry with a result of so many bytes and a result buffer of so many.
+unfoldable pub testsFor : ℕ → List ℕ → ℕ → List Test
+testsFor needed s room = formTests s ++ roomTests needed room ++ figureTests (monthOf s)
+
+-- All of them for the settlement.
 unfoldable pub tests : List ℕ → ℕ → List Test
-tests s room = formTests s ++ roomTests (headerOf s) room ++ figureTests (monthOf s)
+tests s room = testsFor (resultLength (headerOf s)) s room
 
 -- Whether the test with a number applies.
 unfoldable pub applies : ℕ → List Test → Bool

@@ -9,7 +9,7 @@ use Rattle.rules.specs.Range.{any}
 use Rattle.rules.specs.Month.{Month, withConsumers}
 use Rattle.rules.specs.Sheet.{headerOf, layoutOf, monthOf, withContracts}
 use Rattle.rules.specs.Refusals.{oneOf, tooHigh, Test, test, sheetTests, firstOf}
-use Rattle.rules.specs.Outcome.{Outcome, done, sheetAfter}
+use Rattle.rules.specs.Outcome.{Outcome, answered, lentAfter}
 use Rattle.rules.specs.TransferList.{Transfer, listFront, entryWidth, listLength, listVersion, entries, entry}
 
 -- The last day of the month before on which an entry may be filed.
@@ -87,7 +87,7 @@ transferRefusal s l = firstOf (transferTests s l)
 
 -- What is answered.
 unfoldable pub transferOutcome : List ℕ → List ℕ → Outcome
-transferOutcome s l = done (transferRefusal s l)
+transferOutcome s l = answered (transferRefusal s l) 0
 
 -- The contract volumes after the whole list.
 unfoldable pub volumesAfter : Month → List ℕ → ℕ → ℕ
@@ -96,7 +96,7 @@ volumesAfter m l = afterEntries (contracts m) l (entries l)
 -- The sheet afterwards: with the contract volumes after the list; after a refusal as it was.
 unfoldable pub transferred : List ℕ → List ℕ → List ℕ
 transferred s l =
-    sheetAfter (transferRefusal s l)
+    lentAfter (transferRefusal s l)
     (withContracts (layoutOf s) (volumesAfter (monthOf s) l) (headerOf s .consumers) s)
     s
 

@@ -78,7 +78,7 @@ pub struct Transfer {
     pub amount: u32,
 }
 
-// A row of a band table: an excess of up to `edge` thousandths has the factor `factor`, in tenths.
+// A row of a band table: an excess of up to `edge`, in the parts that the table counts in, has the factor `factor`, in tenths.
 pub struct Band {
     pub edge: u32,
     pub factor: u8,

@@ -2,21 +2,23 @@
 use mathlib.Core.Path.{_≡_, sym, ap, _∙_}
 use mathlib.Core.List.{List, _++_, append-assoc}
 use Prim.Native.Nat.{ℕ}
-use borrow.Author.Tests.{eqb-true, eq-eqb, ne-eqb}
+use borrow.Author.Tests.{eqb-true}
 use lib.ListN.{length}
 use Rattle.rules.specs.declared.Layout.{Layout}
 use Rattle.rules.specs.Sheet.{lengthField, headerOf, layoutOf, monthOf}
-use Rattle.rules.specs.Result.{resultLength}
-use Rattle.rules.specs.Refusals.{frontTests, headerTests, formTests, roomTests, figureTests, tests, applies, firstOf, refusal}
-use Rattle.rules.specs.Outcome.{refused, written, outcome, bufferAfter}
+use Rattle.rules.specs.Fields.{over}
+use Rattle.rules.specs.Result.{resultLength, resultOf}
+use Rattle.rules.specs.Refusals.{frontTests, headerTests, formTests, roomTests, figureTests, testsFor, tests, applies, firstOf, refusal}
+use Rattle.rules.specs.Outcome.{refused, written, lentAfter, outcome, bufferAfter}
 use Rattle.laws.proofs.Refusals.{none-applies, first-stands, first-next, not-true, front-numbered}
+use Rattle.laws.proofs.Answers as Answers
 use Rattle.refusals_sheet.specs.Numbers.{monthNumber}
 use Rattle.result.specs.After.{monthAfter}
 
 module _ (s : List ℕ) (room : ℕ) where
   -- The tests past the first three, with the length that the sheet states.
-  later : refusal s room ≡ firstOf (frontTests s ++ (headerTests (layoutOf s) (lengthField s) ++ (roomTests (headerOf s) room ++ figureTests (monthOf s))))
-  unfolding refusal tests formTests
+  later : refusal s room ≡ firstOf (frontTests s ++ (headerTests (layoutOf s) (lengthField s) ++ (roomTests (resultLength (headerOf s)) room ++ figureTests (monthOf s))))
+  unfolding refusal tests testsFor formTests
   later = simp append-assoc
 
   -- The first of 1 to 3 is the sheet's number; where there is none, the first of 4 to 12 is.
@@ -33,9 +35,7 @@ module _ (s : List ℕ) (room : ℕ) where
 -- A refused sheet: its number, and the buffer as it was.
 pub turned-down : (s out : List ℕ) (n : ℕ) → n ≡ refusal s (length out) → (n ≡ 0 → ⊥) → (refused n ≡ outcome s (length out)) × (out ≡ bufferAfter s out)
 unfolding outcome bufferAfter
-turned-down s out n e p =
-    let q = ne-eqb (refusal s (length out)) 0 (λ z. p (e ∙ z)) in
-    (rw (q, e), rw q)
+turned-down s out n e p = Answers.turned-down (refusal s (length out)) (over (resultOf (monthOf s)) out) out (resultLength (headerOf s)) e p
 
 -- What the month leaves is what the sheet leaves.
 module _ (s out : List ℕ) (layout : Layout) (el : layout ≡ layoutOf s) (front : firstOf (frontTests s) ≡ 0) where
@@ -43,7 +43,7 @@ module _ (s out : List ℕ) (layout : Layout) (el : layout ≡ layoutOf s) (fron
   number e = e ∙ ap (λ (x : Layout). monthNumber x s (length out)) el ∙ month-next s (length out) front
 
   after : monthAfter layout s out ≡ bufferAfter s out
-  unfolding monthAfter bufferAfter
+  unfolding monthAfter bufferAfter lentAfter
   after = rw (el, month-next s (length out) front)
 
   pub refused-then : {n : ℕ} (x : List ℕ) → n ≡ monthNumber layout s (length out) → (n ≡ 0 → ⊥) → x ≡ monthAfter layout s out
@@ -53,4 +53,4 @@ module _ (s out : List ℕ) (layout : Layout) (el : layout ≡ layoutOf s) (fron
   pub settled-then : {n count : ℕ} (x : List ℕ) → n ≡ monthNumber layout s (length out) → n ≡ 0 → count ≡ resultLength (layout .header) → x ≡ monthAfter layout s out
       → (written count ≡ outcome s (length out)) × (x ≡ bufferAfter s out)
   unfolding outcome
-  settled-then x e z k q = (rw (eq-eqb (refusal s (length out)) 0 (sym (number e) ∙ z), k, el), q ∙ after)
+  settled-then x e z k q = (rw (k, el) (sym (Answers.says-written (refusal s (length out)) (resultLength (headerOf s)) (sym (number e) ∙ z))), q ∙ after)

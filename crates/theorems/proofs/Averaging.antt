@@ -34,7 +34,7 @@ use Rattle.laws.proofs.Fields.{length-bytesOf, same-bytes, Holds, read-held}
 use Rattle.laws.proofs.Sheet.{consumer-inside}
 use Rattle.laws.proofs.Written.{length-overAt, overAt-holds, overAt-keeps}
 use Rattle.laws.proofs.Refusals.{limits}
-use Rattle.laws.proofs.Changed as Changed
+use Rattle.laws.proofs.Answers as Answers
 use Rattle.laws.proofs.Averaging.{WholeRecord, LowRecord, averaged-limits}
 use Rattle.theorems.specs.Demand3.{WorseProducer, WorseConsumer, Worse, NoBetter}
 use Rattle.theorems.specs.Request3.{OutsidePeak, OnlyPeak, HigherDrawn, OnlyLine, NoLower}
@@ -172,11 +172,11 @@ module _ (s r : List ℕ) where
 
   either : (P : List ℕ → Type 0) → (averageRefusal s r ≡ 0 → P new) → P s → P (averaged s r)
   unfolding averaged peakWritten
-  either P there old = Changed.either (averageRefusal s r) new s P there old
+  either P there old = Answers.either (averageRefusal s r) new s P there old
 
   pub refused-keeps : (averageRefusal s r ≡ 0 → ⊥) → averaged s r ≡ s
   unfolding averaged peakWritten
-  refused-keeps n = Changed.kept (averageRefusal s r) new s n
+  refused-keeps n = Answers.kept (averageRefusal s r) new s n
 
   -- A record that is taken.
   module _ (none : averageRefusal s r ≡ 0) where
@@ -216,7 +216,7 @@ module _ (s r : List ℕ) where
 
     is-written : averaged s r ≡ new
     unfolding averaged peakWritten
-    is-written = Changed.is-changed (averageRefusal s r) new s none
+    is-written = Answers.is-changed (averageRefusal s r) new s none
 
     -- The peak is read from the sheet afterwards.
     pub peak-stated : monthOf (averaged s r) .consumer (complex r) .peak ≡ complexPeak (headerOf s) r

@@ -25,7 +25,7 @@ use Rattle.laws.proofs.Fields.{same-bytes}
 use Rattle.laws.proofs.Sheet.{consumer-inside}
 use Rattle.laws.proofs.Refusals.{first-append, first-next, first-both, both-first, form-numbered, sheet-numbered}
 use Rattle.laws.proofs.Written.{Outside, Room, length-contracts, contracts-keep, contract-read}
-use Rattle.laws.proofs.Changed as Changed
+use Rattle.laws.proofs.Answers as Answers
 use Rattle.laws.proofs.Transfers.{AllNamed, list-numbered, names-clear, applied-limits, after-same, turns-same, sum-after, after-within}
 use Rattle.theorems.specs.Demand3.{Worse, WorseSheet, NoBetter}
 use Rattle.theorems.specs.Request1.{contractSum, OnlyContracts}
@@ -100,11 +100,11 @@ module _ (s t : List ℕ) where
 
   either : (P : List ℕ → Type 0) → (transferRefusal s t ≡ 0 → P applied-sheet) → P s → P (transferred s t)
   unfolding transferred
-  either P new old = Changed.either (transferRefusal s t) applied-sheet s P new old
+  either P new old = Answers.either (transferRefusal s t) applied-sheet s P new old
 
   pub refused-keeps : (transferRefusal s t ≡ 0 → ⊥) → transferred s t ≡ s
   unfolding transferred
-  refused-keeps n = Changed.kept (transferRefusal s t) applied-sheet s n
+  refused-keeps n = Answers.kept (transferRefusal s t) applied-sheet s n
 
   -- A list that is applied.
   module _ (none : transferRefusal s t ≡ 0) where
@@ -157,7 +157,7 @@ module _ (s t : List ℕ) where
 
     pub is-applied : transferred s t ≡ applied-sheet
     unfolding transferred
-    is-applied = Changed.is-changed (transferRefusal s t) applied-sheet s none
+    is-applied = Answers.is-changed (transferRefusal s t) applied-sheet s none
 
     pub settled : (out : List ℕ) → Accepted s (length out) → bufferAfter (transferred s t) out ≡ over (resultOf (withVolumes (monthOf s) volumes)) out
     settled out a =

@@ -20,7 +20,7 @@ use Rattle.laws.proofs.Arrays.{Agrees, filled, getD-listed, length-listed}
 use Rattle.laws.proofs.Refusals.{first-stands, first-next, sheet-limits}
 use Rattle.laws.proofs.Written.{contracts-same}
 use Rattle.laws.proofs.Transfers.{AllNamed, list-numbered, names-clear, after-same, turns-same}
-use Rattle.laws.proofs.Changed as Changed
+use Rattle.laws.proofs.Answers as Answers
 use Rattle.units.specs.declared.Tenths.{Tenths}
 use Rattle.units.specs.Sums.{tenths}
 use Rattle.transfers.specs.declared.contracts.Volumes.{Volumes}
@@ -56,13 +56,13 @@ module _ (s l : List ℕ) where
   -- The sheet's own number.
   pub own-refused : {n : ℕ} → n ≡ firstOf (sheetTests s) → (n ≡ 0 → ⊥) → (refused n ≡ transferOutcome s l) × (s ≡ transferred s l)
   unfolding transferOutcome transferred transferRefusal transferTests
-  own-refused e p = Changed.own-refused s lists changed e p
+  own-refused e p = Answers.own-refused s lists changed e p
 
   -- Where it has none.
   module _ (own : firstOf (sheetTests s) ≡ 0) {layout : Layout} (el : layout ≡ layoutOf s) where
     turned-down : {n : ℕ} → n ≡ firstOf lists → (n ≡ 0 → ⊥) → (refused n ≡ transferOutcome s l) × (s ≡ transferred s l)
     unfolding transferOutcome transferred transferRefusal transferTests
-    turned-down e p = Changed.rest-refused s lists changed own e p
+    turned-down e p = Answers.rest-refused s lists changed own e p
 
     -- The sheet is whole, and has few consumers.
     pub whole : (sheetLength layout ≤ length s) × (layout .header .consumers ≤ 32)
@@ -119,5 +119,5 @@ module _ (s l : List ℕ) where
           applied {after} a et =
               let each : (c : ℕ) → c < layout .header .consumers → read after c ≡ afterEntries (contracts (monthOf s)) l (entries l) c =
               λ c k. ap (λ (y : Tenths). y .0) (a .each c (omega (arith, k, whole .1))) ∙ after-same l (layout .header .consumers) named (read x) (contracts (monthOf s)) same (entries l) c k in
-              let done = Changed.none-refused s lists changed own (sym none) refl in
+              let done = Answers.none-refused s lists changed own (sym none) refl in
               (done .0, et ∙ contracts-same layout _ _ s _ each ∙ rw el (done .1))

@@ -1,4 +1,4 @@
-use Rattle.capacity.proofs.Signed.{count-small, handed-on}
+use Rattle.capacity.proofs.Signed.{settled-small, handed-on}
 use borrow.Author.Needs.{needs}
 use Rattle.capacity.proofs.capacity_settle.Statement.{statement}
 use Rattle.capacity.proofs.capacity_settle.Tie as tie
@@ -7,7 +7,7 @@ settle-requires : tie.Need-settle-requires
 settle-requires c κs = search needs
 
 in-c-requires : tie.Need-in-c-requires
-in-c-requires c κs = count-small _ _ (c .before .before .settle .ensures .0)
+in-c-requires c κs = settled-small _ _ (c .before .before .settle .ensures .0)
 
 same-length : tie.Need-same-length
 same-length c = search needs

@@ -3,15 +3,12 @@ use borrow.Author.Needs.{needs}
 use Rattle.refusals_form.proofs.room_refusal.Statement.{statement}
 use Rattle.refusals_form.proofs.room_refusal.Tie as tie
 
-result-length-requires : tie.Need-result-length-requires
-result-length-requires c κs = search needs
-
 first-requires : tie.Need-first-requires
 first-requires c κs = search needs
 
 returns : tie.Need-returns
 unfolding roomTests firstOf
-returns c = rw (c .first .ensures, c .before .result-length .ensures)
+returns c = c .first .ensures
 
 pub room-refusal-spec : {M : Type 1} → statement M
-room-refusal-spec = tie.close (tie.spec result-length-requires first-requires returns)
+room-refusal-spec = tie.close (tie.spec first-requires returns)

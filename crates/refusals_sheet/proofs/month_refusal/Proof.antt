@@ -1,17 +1,23 @@
-use mathlib.Core.Path.{_≡_, sym, _∙_}
+use mathlib.Core.Path.{_≡_, sym, ap, _∙_}
+use Prim.Native.Nat.{ℕ}
 use lib.ListN.{length}
+use Rattle.rules.specs.Result.{resultLength}
 use Rattle.rules.specs.Refusals.{headerTests, roomTests, firstOf}
 use Rattle.refusals_sheet.proofs.Numbers.{whole, form-stands, room-stands, figures-next}
 use borrow.Author.Needs.{needs}
 use Rattle.refusals_sheet.proofs.month_refusal.Statement.{statement}
 use Rattle.refusals_sheet.proofs.month_refusal.Tie as tie
 
--- None of 4 to 6 applies; nor does 7.
+-- None of 4 to 6 applies.
 form-none : (c : tie.Else1) → firstOf (headerTests (c .before .before .before .args .layout) (length (c .before .before .before .args .s .now))) ≡ 0
 form-none c = sym (c .before .header-refusal .ensures) ∙ c .if1 .left
 
-room-none : (c : tie.Else2) → firstOf (roomTests (c .before .before .before .before .before .args .layout .header) (c .before .before .before .before .before .args .room)) ≡ 0
-room-none c = sym (c .before .room-refusal .ensures) ∙ c .if2 .left
+-- 7, of the settlement's result.
+room-tried : (c : tie.After-room-refusal)
+    → c .room-refusal .result ≡ firstOf (roomTests (resultLength (c .before .before .before .before .before .args .layout .header)) (c .before .before .before .before .before .args .room))
+room-tried c =
+    c .room-refusal .ensures
+    ∙ ap (λ (needed : ℕ). firstOf (roomTests needed (c .before .before .before .before .before .args .room))) (c .before .result-length .ensures)
 
 header-refusal-requires : tie.Need-header-refusal-requires
 header-refusal-requires c κs = search needs
@@ -21,21 +27,24 @@ returns c =
     let e = c .before .header-refusal .ensures in
     e ∙ form-stands _ _ _ (λ z. c .if1 .taken (e ∙ z))
 
+result-length-requires : tie.Need-result-length-requires
+result-length-requires c κs = search needs
+
 room-refusal-requires : tie.Need-room-refusal-requires
 room-refusal-requires c κs = search needs
 
 returns-2 : tie.Need-returns-2
 returns-2 c =
-    let e = c .before .room-refusal .ensures in
-    e ∙ room-stands _ _ _ (form-none (c .before .before)) (λ z. c .if2 .taken (e ∙ z))
+    let e = room-tried (c .before) in
+    e ∙ room-stands _ _ _ (form-none (c .before .before .before)) (λ z. c .if2 .taken (e ∙ z))
 
 figure-refusal-requires : tie.Need-figure-refusal-requires
-figure-refusal-requires c κs = whole _ _ (form-none (c .before .before))
+figure-refusal-requires c κs = whole _ _ (form-none (c .before .before .before))
 
 returns-3 : tie.Need-returns-3
 returns-3 c =
     let r = c .before in
-    c .figure-refusal .ensures ∙ figures-next _ _ _ (form-none (r .before .before)) (room-none r)
+    c .figure-refusal .ensures ∙ figures-next _ _ _ (form-none (r .before .before .before)) (sym (room-tried (r .before)) ∙ r .if2 .left)
 
 pub month-refusal-spec : {M : Type 1} → statement M
 month-refusal-spec =
@@ -43,6 +52,7 @@ month-refusal-spec =
     (tie.spec
     header-refusal-requires
     returns
+    result-length-requires
     room-refusal-requires
     returns-2
     figure-refusal-requires
