@@ -1,16 +1,15 @@
 -- The control hours day by day: six hours of each control day. Assumes nothing.
-use mathlib.Core.Path.{_≡_, refl, sym, ap, _∙_}
+use mathlib.Core.Path.{_≡_, refl, ap, _∙_}
 use mathlib.Core.Bool.{Bool, true, false, _&&_}
-use Prim.Native.Nat.{ℕ, zero, suc, zero-le, _+_, _*_, _/_, _%_, _<_, _≤_}
+use Prim.Native.Nat.{ℕ, zero, suc, _+_, _*_, _/_, _%_, _<_, _≤_}
 use native.Mathlib.Omega.{arith}
-use native.Mathlib.Numerals.{add-one}
 use lib.Dec.{leb}
 use borrow.Author.Tests.{le-leb, lt-leb}
 use Rattle.rules.specs.declared.Header.{Header}
 use Rattle.rules.specs.Range.{sum, when}
 use Rattle.rules.specs.Month.{hours}
 use Rattle.rules.specs.ControlHours.{controlDay, controlHour, counted, once, controlSum, controlCount}
-use Rattle.laws.proofs.Range.{sum-none, sum-more, sum-same}
+use Rattle.laws.proofs.Range.{sum-same}
 
 -- A sum over a + b places is the sum over the first a, and over the b after them.
 pub sum-append : (f : ℕ → ℕ) (a b : ℕ) → sum f (a + b) ≡ sum f a + sum (λ i. f (a + i)) b

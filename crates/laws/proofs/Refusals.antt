@@ -410,6 +410,11 @@ sheet-limits s e =
     let form = form-limits s (parts .0) in
     (form, month-limits (monthOf s) (form .header) (parts .1))
 
+pub sheet-clear : (s : List ℕ) → FormLimits s → MonthLimits (monthOf s) → firstOf (sheetTests s) ≡ 0
+unfolding sheetTests
+sheet-clear s form month =
+    both-first (formTests s) (figureTests (monthOf s)) (form-numbered s) (form-clear s form) (month-figures-clear (monthOf s) month)
+
 -- The stretch of hours: where it stands, that it ends within the sheet, and where there is none.
 module _ (s : List ℕ) (p : ℕ) where
   pub stretch-there : firstOf (formTests s) ≡ 0 → p < headerOf s .producers

@@ -1,5 +1,4 @@
 -- What the sums over a month's hours are at most, whatever the bytes, so that they fit. Assumes nothing.
-use mathlib.Core.Path.{_≡_}
 use Prim.Native.Nat.{ℕ, _*_, _≤_}
 use Rattle.rules.specs.ControlHours.{average}
 use Rattle.laws.proofs.Units.{rounded-at-most}

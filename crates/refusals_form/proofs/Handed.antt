@@ -1,9 +1,9 @@
 -- The stretch of a sheet with a producer's hours, as it is handed back. Assumes nothing.
-use mathlib.Core.Path.{_≡_, refl, sym, ap, _∙_}
+use mathlib.Core.Path.{_≡_, refl, sym, _∙_}
 use mathlib.Core.List.{List, []}
 use Prim.Native.Nat.{ℕ, _+_, _≤_, _<_}
 use native.Mathlib.Omega.{arith}
-use lib.ListN.{length, take, drop, length-take, length-drop}
+use lib.ListN.{length, length-take, length-drop}
 use Rattle.rules.specs.declared.Layout.{Layout}
 use Rattle.rules.specs.Sheet.{headerOf, layoutOf}
 use Rattle.rules.specs.Refusals.{formTests, firstOf}

@@ -1,5 +1,4 @@
 -- Numbers 8 and 9 of a producer's stated figures, apart from its hours.
-use Prim.Native.Nat.{ℕ}
 use mathlib.Core.Bool.{Bool, _||_}
 use Rattle.rules.specs.declared.Stated.{Stated}
 use Rattle.rules.specs.Month.{Producer}

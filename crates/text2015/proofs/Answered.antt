@@ -4,7 +4,6 @@ use mathlib.Core.List.{List}
 use Prim.Native.Nat.{ℕ, _≤_}
 use native.Mathlib.Nat.{le-of-eq}
 use lib.ListN.{length}
-use Rattle.rules.specs.declared.Header.{Header}
 use Rattle.rules.specs.declared.Layout.{Layout}
 use Rattle.rules.specs.Fields.{over}
 use Rattle.rules.specs.Sheet.{headerOf, layoutOf, sheetLength, monthOf, monthUnder}

@@ -1,6 +1,6 @@
 -- In every rising table a larger excess never meets a smaller factor. Assumes nothing.
 use mathlib.Core.Path.{_≡_, refl}
-use mathlib.Core.Bool.{Bool, true, false, cond, _&&_}
+use mathlib.Core.Bool.{Bool, true, false, cond}
 use mathlib.Core.List.{List, [], _∷_}
 use Prim.Native.Nat.{ℕ, zero, suc, zero-le, _≤_}
 use native.Mathlib.Nat.{le-refl, le-trans, lt-of-lt-of-le, not-suc-le-zero, mul-le-mul-right}
@@ -8,14 +8,9 @@ use lib.Dec.{T, leb, leb→le}
 use lib.Ieee.Fits.{and-l, and-r}
 use borrow.Author.Tests.{leb-false, lt-leb}
 use Rattle.rules.specs.declared.Band.{Band}
-use Rattle.rules.specs.Bands.{bands, factorOf, bandOf, overNothing, thousandths}
+use Rattle.rules.specs.Bands.{bands, factorOf, bandOf, overNothing, partsOf, thousandths}
 use Rattle.laws.proofs.Units.{rounded-mono}
-
--- No factor of the table is below the one before it.
-abbrev pub rising : List Band → Bool
-rising [] = true
-rising (row ∷ []) = true
-rising (row ∷ next ∷ rows) = leb (row .factor) (next .factor) && rising (next ∷ rows)
+use Rattle.theorems.specs.Request4.{rising}
 
 least : (row : Band) (rows : List Band) → T (rising (row ∷ rows)) → (p : ℕ) → row .factor ≤ factorOf (row ∷ rows) p
 unfolding factorOf
@@ -26,12 +21,12 @@ least row (next ∷ rows) t p = go (leb p (row .edge)) (least next rows (and-r (
     go true h = le-refl (row .factor)
     go false h = le-trans (leb→le _ _ (and-l (leb (row .factor) (next .factor)) (rising (next ∷ rows)) t)) h
 
-pub factor-mono : (t : List Band) → T (rising t) → (p q : ℕ) → p ≤ q → factorOf t p ≤ factorOf t q
+pub larger-excess-no-smaller-factor : (t : List Band) → T (rising t) → (p q : ℕ) → p ≤ q → factorOf t p ≤ factorOf t q
 unfolding factorOf
-factor-mono [] t p q h = le-refl 0
-factor-mono (row ∷ []) t p q h = le-refl (row .factor)
-factor-mono (row ∷ next ∷ rows) t p q h =
-    go (leb p (row .edge)) refl (factor-mono (next ∷ rows) (and-r (leb (row .factor) (next .factor)) (rising (next ∷ rows)) t) p q h)
+larger-excess-no-smaller-factor [] t p q h = le-refl 0
+larger-excess-no-smaller-factor (row ∷ []) t p q h = le-refl (row .factor)
+larger-excess-no-smaller-factor (row ∷ next ∷ rows) t p q h =
+    go (leb p (row .edge)) refl (larger-excess-no-smaller-factor (next ∷ rows) (and-r (leb (row .factor) (next .factor)) (rising (next ∷ rows)) t) p q h)
   where
     go : (b : Bool) → leb p (row .edge) ≡ b → factorOf (next ∷ rows) p ≤ factorOf (next ∷ rows) q
         → cond b (row .factor) (factorOf (next ∷ rows) p) ≤ factorOf (row ∷ next ∷ rows) q
@@ -45,19 +40,21 @@ bands-rise = tt
 
 pub band-mono : {p q : ℕ} → p ≤ q → bandOf p ≤ bandOf q
 unfolding bandOf
-band-mono {p} {q} h = factor-mono bands bands-rise p q h
+band-mono {p} {q} h = larger-excess-no-smaller-factor bands bands-rise p q h
 
--- Over the same reference, by one name or two, a larger excess never has fewer thousandths.
-over-nothing-mono : (E F : ℕ) → E ≤ F → overNothing E ≤ overNothing F
+-- Over the same reference a larger excess never has fewer parts.
+over-nothing-mono : (beyond E F : ℕ) → E ≤ F → overNothing beyond E ≤ overNothing beyond F
 unfolding overNothing
-over-nothing-mono zero F h = zero-le
-over-nothing-mono (suc e) zero h = absurd (not-suc-le-zero h)
-over-nothing-mono (suc e) (suc f) h = le-refl 501
+over-nothing-mono beyond zero F h = zero-le
+over-nothing-mono beyond (suc e) zero h = absurd (not-suc-le-zero h)
+over-nothing-mono beyond (suc e) (suc f) h = le-refl beyond
 
-over-one : (Q : ℕ) {E F : ℕ} → E ≤ F → thousandths E Q ≤ thousandths F Q
-unfolding thousandths
-over-one zero {E} {F} h = over-nothing-mono E F h
-over-one (suc q) h = rounded-mono (suc q) (mul-le-mul-right 1000 h)
+pub parts-mono : (whole beyond Q : ℕ) {E F : ℕ} → E ≤ F → partsOf whole beyond E Q ≤ partsOf whole beyond F Q
+unfolding partsOf
+parts-mono whole beyond zero {E} {F} h = over-nothing-mono beyond E F h
+parts-mono whole beyond (suc q) h = rounded-mono (suc q) (mul-le-mul-right whole h)
 
+-- In thousandths, over a reference by one name or two.
 pub thousandths-mono : {Q Q′ E F : ℕ} → Q ≡ Q′ → E ≤ F → thousandths E Q ≤ thousandths F Q′
-thousandths-mono {Q′ = Q} e h = rw e (over-one Q h)
+unfolding thousandths
+thousandths-mono {Q′ = Q} e h = rw e (parts-mono 1000 501 Q h)

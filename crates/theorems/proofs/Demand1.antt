@@ -6,7 +6,9 @@ use Prim.Native.Nat.{ℕ}
 use lib.Dec.{T, eqb}
 use lib.Ieee.Fits.{and-l, and-r}
 use borrow.Author.Tests.{eqb-true, eq-eqb}
-use Rattle.rules.specs.Refusals.{Test, frontTests, headerTests, formTests, roomTests, figureTests, tests, applies, firstOf, refusal}
+use Rattle.rules.specs.Sheet.{headerOf}
+use Rattle.rules.specs.Result.{resultLength}
+use Rattle.rules.specs.Refusals.{Test, frontTests, headerTests, formTests, roomTests, figureTests, testsFor, tests, applies, firstOf, refusal}
 use Rattle.theorems.specs.Demand1.{before, First}
 
 -- A number stands in a list; no number stands twice.
@@ -62,6 +64,10 @@ first (t ∷ ts) d n e p = go (t .applies) refl e (λ (q : firstOf ts ≡ n). fi
         }
 
 -- A refusal with number n above 0: test n of the sheet applies, and none that is tried before it does.
+pub first-for : (needed : ℕ) (s : List ℕ) (room n : ℕ) → firstOf (testsFor needed s room) ≡ n → (n ≡ 0 → ⊥) → First (testsFor needed s room) n
+first-for needed s room n e p =
+    first (testsFor needed s room) (unfold testsFor frontTests headerTests formTests roomTests figureTests in tt) n e p
+
 pub refused-first : (s : List ℕ) (room n : ℕ) → refusal s room ≡ n → (n ≡ 0 → ⊥) → First (tests s room) n
-unfolding refusal
-refused-first s room n e p = first (tests s room) (unfold tests frontTests headerTests formTests roomTests figureTests in tt) n e p
+unfolding refusal tests
+refused-first s room n e p = first-for (resultLength (headerOf s)) s room n e p

@@ -5,16 +5,17 @@ use Prim.Native.Nat.{ℕ, _+_, _≤_, _<_}
 use native.Mathlib.Omega.{arith}
 use lib.ListN.{length, take, drop, getD}
 use lib.Seq.{getD-take}
-use borrow.Author.Tests.{eq-eqb}
 use Rattle.rules.specs.declared.Header.{Header}
 use Rattle.rules.specs.Month.{Month}
 use Rattle.rules.specs.Limits.{MonthLimits}
 use Rattle.rules.specs.Fields.{bigEndian, over}
 use Rattle.rules.specs.Sheet.{headerWidth, headerOf, monthOf}
 use Rattle.rules.specs.Result.{readRow, readConsumer, readTotals, rowFigures, consumerFigures, totalFigures, resultOf}
+use Rattle.rules.specs.Refusals.{refusal}
 use Rattle.rules.specs.Outcome.{Accepted, bufferAfter}
 use Rattle.laws.proofs.Fields.{same-bytes, Holds, holds-front}
 use Rattle.laws.proofs.Refusals.{limits}
+use Rattle.laws.proofs.Answers.{is-changed}
 use Rattle.laws.proofs.Cut.{cut-le-volume}
 use Rattle.laws.proofs.Rows.{actual-le-cut}
 use Rattle.theorems.specs.Demand3.{Worse, WorseSheet, NoBetter, OnlyCut}
@@ -46,7 +47,7 @@ over-begins p out e = rw e (holds-front p (drop (length p) out))
 
 pub begins : (s out : List ℕ) → Accepted s (length out) → Holds (bufferAfter s out) 0 (resultOf (monthOf s))
 unfolding bufferAfter
-begins s out a = over-begins (resultOf (monthOf s)) out (rw (eq-eqb _ _ a))
+begins s out a = over-begins (resultOf (monthOf s)) out (is-changed (refusal s (length out)) (over (resultOf (monthOf s)) out) out a)
 
 -- The last sentence of demand 3.
 pub only-cut : (s out : List ℕ) → Accepted s (length out) → OnlyCut s (bufferAfter s out)

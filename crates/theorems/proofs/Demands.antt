@@ -3,7 +3,6 @@ use mathlib.Core.Path.{_≡_}
 use mathlib.Core.List.{List, _++_}
 use Prim.Native.Nat.{ℕ, _+_, _≤_, _<_}
 use lib.ListN.{length, drop}
-use borrow.Author.Tests.{eq-eqb, ne-eqb}
 use Rattle.rules.specs.declared.Consumer.{Consumer}
 use Rattle.rules.specs.Limits.{SheetLimits}
 use Rattle.rules.specs.Fields.{over}
@@ -15,6 +14,7 @@ use Rattle.rules.specs.Refusals.{formTests, tests, firstOf, refusal}
 use Rattle.rules.specs.Outcome.{refused, written, Accepted, outcome, bufferAfter, hoursStretch}
 use Rattle.laws.proofs.Fields.{Fit}
 use Rattle.laws.proofs.Refusals as Refusals
+use Rattle.laws.proofs.Answers as Answers
 use Rattle.laws.proofs.Cut as Cut
 use Rattle.theorems.specs.Demand1.{First}
 use Rattle.theorems.specs.Demand3.{WorseSheet, NoBetter, OnlyCut}
@@ -40,22 +40,22 @@ refused-first = Demand1.refused-first
 module _ (s out : List ℕ) where
   pub refused-outcome : (refusal s (length out) ≡ 0 → ⊥) → outcome s (length out) ≡ refused (refusal s (length out))
   unfolding outcome
-  refused-outcome n = rw (ne-eqb _ _ n)
+  refused-outcome n = Answers.says-refused (refusal s (length out)) (resultLength (headerOf s)) n
 
   pub refused-keeps : (refusal s (length out) ≡ 0 → ⊥) → bufferAfter s out ≡ out
   unfolding bufferAfter
-  refused-keeps n = rw (ne-eqb _ _ n)
+  refused-keeps n = Answers.kept (refusal s (length out)) (over (resultOf (monthOf s)) out) out n
 
   -- Demand 2, of the definitions -------------------------------------------------------------------------------------------------
 
   -- An accepted sheet is answered with the count of bytes of its result, which stand at the buffer's beginning; those past them are kept.
   pub accepted-outcome : Accepted s (length out) → outcome s (length out) ≡ written (length (resultOf (monthOf s)))
   unfolding outcome
-  accepted-outcome a = rw (eq-eqb _ _ a, ReadBack.result-length (monthOf s))
+  accepted-outcome a = rw (ReadBack.result-length (monthOf s)) (Answers.says-written (refusal s (length out)) (resultLength (headerOf s)) a)
 
   pub accepted-result : Accepted s (length out) → bufferAfter s out ≡ resultOf (monthOf s) ++ drop (length (resultOf (monthOf s))) out
   unfolding bufferAfter over
-  accepted-result a = rw (eq-eqb _ _ a)
+  accepted-result a = Answers.is-changed (refusal s (length out)) (over (resultOf (monthOf s)) out) out a
 
   -- The result has the stated length.
   pub result-length : length (resultOf (monthOf s)) ≡ resultLength (headerOf s)

@@ -11,4 +11,5 @@ pub mod Alike
 pub mod OtherConsumers
 pub mod Transfers
 pub mod Averaging
+pub mod Text2015
 pub mod Requests

@@ -5,7 +5,6 @@ use mathlib.Core.List.{List}
 use Prim.Native.Nat.{ℕ, _+_, _*_, _≤_, _<_}
 use native.Mathlib.Nat.{add-zero, mul-le-mul-right}
 use native.Mathlib.Omega.{arith}
-use borrow.Author.Tests.{eq-eqb}
 use lib.ListN.{length, getD}
 use Rattle.rules.specs.declared.Header.{Header}
 use Rattle.rules.specs.declared.Consumer.{Consumer}
@@ -15,9 +14,11 @@ use Rattle.rules.specs.Limits.{HeaderLimits, ConsumerLimits, FormLimits, MonthL
 use Rattle.rules.specs.Fields.{bigEndian, over}
 use Rattle.rules.specs.Sheet.{version, lengthField, headerOf, layoutOf, monthOf, monthUnder, hoursWidth, producerAt, hoursAt, power, producerUnder, rowAt, rowOf, consumerAt, consumerOf, sheetLength}
 use Rattle.rules.specs.Result.{resultLength, resultOf}
+use Rattle.rules.specs.Refusals.{refusal}
 use Rattle.rules.specs.Outcome.{Accepted, bufferAfter}
 use Rattle.laws.proofs.Fields.{same-bytes}
 use Rattle.laws.proofs.Refusals.{limits, accepted}
+use Rattle.laws.proofs.Answers.{is-changed}
 use Rattle.theorems.specs.Alike.{SameProducer, Alike}
 use Rattle.theorems.proofs.Alike.{alike-limits, alike-result}
 
@@ -135,6 +136,6 @@ module _ (s t : List ℕ) (as-long : length t ≡ length s) (front-kept : (i : �
       pub settled : (out : List ℕ) → Accepted s (length out) → bufferAfter t out ≡ over (resultOf (withConsumers (monthOf s) k)) out
       unfolding bufferAfter
       settled out a =
-          rw (eq-eqb _ _ (stays (length out) a))
-          (ap (λ (x : List ℕ). over x out)
+          is-changed (refusal t (length out)) (over (resultOf (monthOf t)) out) out (stays (length out) a)
+          ∙ (ap (λ (x : List ℕ). over x out)
           (alike-result (withConsumers (monthOf s) k) (monthOf t) month-after (with-limits (limits s (length out) a .month))))

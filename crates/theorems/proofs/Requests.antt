@@ -2,32 +2,44 @@
 use mathlib.Core.Path.{_≡_}
 use mathlib.Core.Bool.{false}
 use mathlib.Core.Logic.{_⊎_, inl, inr}
-use mathlib.Core.List.{List}
-use Prim.Native.Nat.{ℕ, _≤_, _<_}
+use mathlib.Core.List.{List, _++_}
+use Prim.Native.Nat.{ℕ, _-_, _≤_, _<_}
 use native.Mathlib.Omega.{arith}
-use lib.Dec.{leb}
-use lib.ListN.{length}
-use borrow.Author.Tests.{ne-eqb}
+use lib.Dec.{T, leb}
+use lib.ListN.{length, drop}
+use Rattle.rules.specs.declared.Band.{Band}
+use Rattle.rules.specs.declared.Consumer.{Consumer}
+use Rattle.rules.specs.Bands.{bands, factorOf}
+use Rattle.rules.specs.Consumers.{volumeOf}
 use Rattle.rules.specs.ControlHours.{weekdayOn, controlWeekday, controlDay}
 use Rattle.rules.specs.ControlTable.{controlWeekdays, lineOf, says, tableDay}
-use Rattle.rules.specs.Fields.{over}
+use Rattle.rules.specs.Fields.{bigEndian, over}
 use Rattle.rules.specs.Sheet.{headerOf, monthOf}
 use Rattle.rules.specs.Result.{resultOf}
 use Rattle.rules.specs.Refusals.{frontTests, headerTests, formTests, figureTests, sheetTests}
-use Rattle.rules.specs.Outcome.{refused, Accepted, bufferAfter, done}
+use Rattle.rules.specs.Outcome.{refused, written, Accepted, bufferAfter}
 use Rattle.rules.specs.Transfers.{contracts, listTests, turnTests, transferTests, transferRefusal, transferOutcome, volumesAfter, transferred, withVolumes}
 use Rattle.rules.specs.ComplexRecord.{complex}
 use Rattle.rules.specs.Averaging.{complexPeak, recordTests, averageTests, averageRefusal, averageOutcome, averaged, withPeakOf}
+use Rattle.rules.specs.Text2015.{bands2015, volumeFor}
+use Rattle.rules.specs.Result2015.{figures2015, fields2015, length2015, result2015, read2015}
+use Rattle.rules.specs.Outcome2015.{tests2015, refusal2015, Accepted2015, Limits2015, outcome2015, bufferAfter2015}
 use Rattle.laws.proofs.Arrays.{length-listed}
+use Rattle.laws.proofs.Fields.{Fit}
 use Rattle.laws.proofs.ControlTable.{line-length, entry-right, no-weekday, no-day, table-day}
 use Rattle.laws.proofs.Refusals.{limits}
+use Rattle.laws.proofs.Answers as Answers
 use Rattle.theorems.specs.Demand1.{First}
 use Rattle.theorems.specs.Demand3.{WorseSheet, NoBetter}
 use Rattle.theorems.specs.Request1.{contractSum, OnlyContracts}
 use Rattle.theorems.proofs.Demand1 as Demand1
 use Rattle.theorems.specs.Request3.{OnlyPeak, HigherDrawn, OnlyLine, NoLower}
+use Rattle.theorems.specs.Request4.{rising, HigherPeaks, NoLower2015}
 use Rattle.theorems.proofs.Transfers as Transfers
 use Rattle.theorems.proofs.Averaging as Averaging
+use Rattle.theorems.proofs.Bands as Bands
+use Rattle.theorems.proofs.Consumers as Consumers
+use Rattle.theorems.proofs.Text2015 as Text2015
 
 -- Request 1: transfers of contract volume -------------------------------------------------------------------------------------------
 
@@ -39,8 +51,8 @@ module _ (s list : List ℕ) where
       Demand1.first (transferTests s list) (unfold transferTests sheetTests formTests frontTests headerTests figureTests listTests turnTests in tt) n e p
 
   pub transfer-refused-outcome : (transferRefusal s list ≡ 0 → ⊥) → transferOutcome s list ≡ refused (transferRefusal s list)
-  unfolding transferOutcome done
-  transfer-refused-outcome n = rw (ne-eqb _ _ n)
+  unfolding transferOutcome
+  transfer-refused-outcome n = Answers.says-refused (transferRefusal s list) 0 n
 
   pub transfer-refused-keeps : (transferRefusal s list ≡ 0 → ⊥) → transferred s list ≡ s
   transfer-refused-keeps = Transfers.refused-keeps s list
@@ -109,8 +121,8 @@ module _ (s r : List ℕ) where
       Demand1.first (averageTests s r) (unfold averageTests sheetTests formTests frontTests headerTests figureTests recordTests in tt) n e p
 
   pub average-refused-outcome : (averageRefusal s r ≡ 0 → ⊥) → averageOutcome s r ≡ refused (averageRefusal s r)
-  unfolding averageOutcome done
-  average-refused-outcome n = rw (ne-eqb _ _ n)
+  unfolding averageOutcome
+  average-refused-outcome n = Answers.says-refused (averageRefusal s r) 0 n
 
   pub average-refused-keeps : (averageRefusal s r ≡ 0 → ⊥) → averaged s r ≡ s
   average-refused-keeps = Averaging.refused-keeps s r
@@ -144,3 +156,77 @@ pub average-no-lower : (s r r′ out out′ : List ℕ) → Accepted s (length o
     → NoLower (headerOf s) (complex r) (bufferAfter (averaged s r) out) (bufferAfter (averaged s r′) out′)
     × OnlyLine (headerOf s) (complex r) (bufferAfter (averaged s r) out) (bufferAfter (averaged s r′) out′)
 average-no-lower s r r′ out out′ a a′ none none′ higher = Averaging.no-lower s r r′ none none′ higher out out′ a a′
+
+-- Request 4: consumers under the text of 2015 ---------------------------------------------------------------------------------------
+
+-- In every rising band table a larger excess never meets a smaller factor; and both texts' tables rise.
+pub larger-excess-no-smaller-factor : (table : List Band) → T (rising table) → (p q : ℕ) → p ≤ q → factorOf table p ≤ factorOf table q
+larger-excess-no-smaller-factor = Bands.larger-excess-no-smaller-factor
+
+pub tables-rise : T (rising bands) × T (rising bands2015)
+tables-rise = (Bands.bands-rise, Text2015.bands-2015-rise)
+
+-- From it: a higher peak never gives a lower volume, under the text of 2021, whatever the consumer's credit, and under the text of 2015.
+pub higher-peak-no-lower-volume : (days credit : ℕ) (c : Consumer) (x y : ℕ) → x ≤ y
+    → (volumeOf days c (x - credit) ≤ volumeOf days c (y - credit)) × (volumeFor (c .contract) x ≤ volumeFor (c .contract) y)
+higher-peak-no-lower-volume days credit c x y h = (Consumers.exam days c (omega arith), Text2015.volume-for-mono (c .contract) h)
+
+-- An accepted sheet keeps to every limit, each by name, and a sheet that keeps to every limit is accepted; a sheet that the settlement
+-- accepts is accepted here with the same room.
+module _ (s : List ℕ) (room : ℕ) where
+  pub accepted-limits-2015 : Accepted2015 s room → Limits2015 s room
+  accepted-limits-2015 = Text2015.accepted-limits s room
+
+  pub limits-accepted-2015 : Limits2015 s room → Accepted2015 s room
+  limits-accepted-2015 = Text2015.limits-accepted s room
+
+  pub settled-accepted-2015 : Accepted s room → Accepted2015 s room
+  settled-accepted-2015 = Text2015.settled-accepted s room
+
+  -- A refusal's number is that of the first test that applies.
+  pub refused-first-2015 : (n : ℕ) → refusal2015 s room ≡ n → (n ≡ 0 → ⊥) → First (tests2015 s room) n
+  unfolding refusal2015 tests2015
+  refused-first-2015 n e p = Demand1.first-for (length2015 (headerOf s)) s room n e p
+
+module _ (s out : List ℕ) where
+  -- It is answered with its number, and the buffer keeps every byte.
+  pub refused-outcome-2015 : (refusal2015 s (length out) ≡ 0 → ⊥) → outcome2015 s (length out) ≡ refused (refusal2015 s (length out))
+  unfolding outcome2015
+  refused-outcome-2015 n = Answers.says-refused (refusal2015 s (length out)) (length2015 (headerOf s)) n
+
+  pub refused-keeps-2015 : (refusal2015 s (length out) ≡ 0 → ⊥) → bufferAfter2015 s out ≡ out
+  unfolding bufferAfter2015
+  refused-keeps-2015 n = Answers.kept (refusal2015 s (length out)) (over (result2015 (monthOf s)) out) out n
+
+  -- The result has the stated length.
+  pub result-length-2015 : length (result2015 (monthOf s)) ≡ length2015 (headerOf s)
+  result-length-2015 = Text2015.result-length (monthOf s)
+
+  -- An accepted sheet is answered with the count of bytes of its result, which stand at the buffer's beginning; those past them are kept.
+  module _ (a : Accepted2015 s (length out)) where
+    pub accepted-outcome-2015 : outcome2015 s (length out) ≡ written (length (result2015 (monthOf s)))
+    unfolding outcome2015
+    accepted-outcome-2015 = rw result-length-2015 (Answers.says-written (refusal2015 s (length out)) (length2015 (headerOf s)) a)
+
+    pub accepted-result-2015 : bufferAfter2015 s out ≡ result2015 (monthOf s) ++ drop (length (result2015 (monthOf s))) out
+    unfolding bufferAfter2015 over
+    accepted-result-2015 = Answers.is-changed (refusal2015 s (length out)) (over (result2015 (monthOf s)) out) out a
+
+    -- Every figure fits its field, and the bytes give it back, the length too.
+    pub fits-2015 : (c : ℕ) → c < headerOf s .consumers → Fit (fields2015 (figures2015 (monthOf s) c))
+    fits-2015 = Text2015.consumer-fits (monthOf s) (Text2015.accepted-limits s (length out) a .month)
+
+    pub read-2015 : (c : ℕ) → c < headerOf s .consumers → read2015 (bufferAfter2015 s out) c ≡ figures2015 (monthOf s) c
+    read-2015 = Text2015.consumer-read (monthOf s) (Text2015.accepted-limits s (length out) a .month) (bufferAfter2015 s out) (Text2015.begins s out a)
+
+    pub length-read-2015 : bigEndian 4 (bufferAfter2015 s out) 0 ≡ length2015 (headerOf s)
+    length-read-2015 = Text2015.length-read (monthOf s) (Text2015.accepted-limits s (length out) a .month) (bufferAfter2015 s out) (Text2015.begins s out a)
+
+-- Of two accepted sheets that are alike but for higher peaks in the second, the second result has no lower factor, volume or charge.
+pub no-lower-2015 : (s s′ out out′ : List ℕ) → Accepted2015 s (length out) → Accepted2015 s′ (length out′) → HigherPeaks s s′
+    → NoLower2015 (headerOf s) (bufferAfter2015 s out) (bufferAfter2015 s′ out′)
+no-lower-2015 = Text2015.no-lower
+
+-- Two sheets in the relation of demand 3 are such a pair: under this text too a worse month never charges a consumer less.
+pub worse-higher-2015 : (s s′ : List ℕ) → WorseSheet s s′ → HigherPeaks s s′
+worse-higher-2015 = Text2015.worse-higher

@@ -16,14 +16,14 @@ use Rattle.rules.specs.Limits.{FormLimits, ConsumerLimits, MonthLimits}
 use Rattle.rules.specs.Fields.{bigEndian, over}
 use Rattle.rules.specs.Sheet.{headerOf, layoutOf, monthOf, consumerAt, consumerOf, contractAt, withContracts}
 use Rattle.rules.specs.Result.{resultOf}
-use Rattle.rules.specs.Refusals.{frontTests, headerTests, formTests, roomTests, figureTests, sheetTests, tests, firstOf, refusal}
+use Rattle.rules.specs.Refusals.{sheetTests, firstOf}
 use Rattle.rules.specs.Outcome.{Accepted, bufferAfter}
 use Rattle.rules.specs.TransferList.{entries}
 use Rattle.rules.specs.Transfers.{contracts, listTests, turnTests, transferTests, transferRefusal, transferOutcome, volumesAfter, transferred, withVolumes}
 use Rattle.laws.proofs.Range.{sum-same}
 use Rattle.laws.proofs.Fields.{same-bytes}
 use Rattle.laws.proofs.Sheet.{consumer-inside}
-use Rattle.laws.proofs.Refusals.{first-append, first-next, first-both, both-first, form-numbered, sheet-numbered}
+use Rattle.laws.proofs.Refusals.{first-append, first-next, sheet-numbered, sheet-clear, limits}
 use Rattle.laws.proofs.Written.{Outside, Room, length-contracts, contracts-keep, contract-read}
 use Rattle.laws.proofs.Answers as Answers
 use Rattle.laws.proofs.Transfers.{AllNamed, list-numbered, names-clear, applied-limits, after-same, turns-same, sum-after, after-within}
@@ -174,12 +174,8 @@ module _ (s t : List ℕ) where
       (record { as-long = refl; kept = λ i o. refl; stays-accepted = λ bytes a. a })
 
 -- Two accepted sheets in demand 3's relation, and one list.
-accepted-own : (s : List ℕ) (room : ℕ) → Accepted s room → firstOf (sheetTests s) ≡ 0
-unfolding refusal tests sheetTests
-accepted-own s room a =
-    let all = first-both (formTests s ++ roomTests (headerOf s) room) (figureTests (monthOf s)) (unfold formTests frontTests headerTests roomTests in tt) a in
-    let form = first-both (formTests s) (roomTests (headerOf s) room) (form-numbered s) (all .0) in
-    both-first (formTests s) (figureTests (monthOf s)) (form-numbered s) (form .0) (all .1)
+accepted-own : (s : List ℕ) (bytes : ℕ) → Accepted s bytes → firstOf (sheetTests s) ≡ 0
+accepted-own s bytes a = let l = limits s bytes a in sheet-clear s (l .form) (l .month)
 
 module _ (s s′ t : List ℕ) (w : WorseSheet s s′) where
   heads : headerOf s′ ≡ headerOf s

@@ -3,3 +3,4 @@ pub mod Demand3
 pub mod Alike
 pub mod Request1
 pub mod Request3
+pub mod Request4

@@ -1,7 +1,6 @@
-use mathlib.Core.Path.{sym, ap, _∙_}
-use Prim.Native.Nat.{ℕ}
+use mathlib.Core.Path.{sym, _∙_}
 use Rattle.rules.specs.Sheet.{lengthField}
-use Rattle.rules.specs.Refusals.{frontTests, headerTests, formTests, firstOf}
+use Rattle.rules.specs.Refusals.{formTests}
 use Rattle.laws.proofs.Refusals.{first-stands, first-next, front-numbered}
 use borrow.Author.Needs.{needs}
 use Rattle.refusals_form.proofs.form_refusal.Statement.{statement}

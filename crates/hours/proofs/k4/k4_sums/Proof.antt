@@ -1,5 +1,5 @@
-use mathlib.Core.Path.{_≡_, refl, sym, _∙_}
-use mathlib.Core.Bool.{true, false, _&&_}
+use mathlib.Core.Path.{_≡_, sym}
+use mathlib.Core.Bool.{true, _&&_}
 use Prim.Native.Nat.{_*_, zero-le}
 use lib.ListN.{length}
 use Rattle.hours.specs.Series.{stands}

@@ -1,6 +1,6 @@
 use native.Mathlib.Omega.{arith}
 use mathlib.Core.Path.{_≡_, ap, ap₂, _∙_}
-use Prim.Native.Nat.{ℕ, _+_, min}
+use Prim.Native.Nat.{ℕ, min}
 use Rattle.laws.proofs.Range.{sum-fold}
 use Rattle.units.proofs.Adding.{added-exact}
 use borrow.Author.Needs.{needs}

@@ -1,5 +1,4 @@
 use mathlib.Core.Path.{refl, sym, _∙_}
-use native.Mathlib.Omega.{arith}
 use Rattle.laws.proofs.Refusals.{stretch-refused, stretch-none}
 use Rattle.refusals_form.proofs.Handed.{no-stretch, stretch-same, stretch-length}
 use borrow.Author.Needs.{needs}

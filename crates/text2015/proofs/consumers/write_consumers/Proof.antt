@@ -7,10 +7,11 @@ use Rattle.rules.specs.Month.{Month}
 use Rattle.rules.specs.Sheet.{monthUnder}
 use Rattle.rules.specs.Result2015.{record2015}
 use Rattle.laws.proofs.Fields.{length-joined}
+use Rattle.laws.proofs.Text2015.{length-record-2015}
 use Rattle.sheet.proofs.Whole.{consumer-there}
 use Rattle.writing.proofs.Lent.{over-none, length-over, next-record}
 use Rattle.text2015.specs.Lines.{lineOf}
-use Rattle.text2015.proofs.Parts.{length-record, line-record}
+use Rattle.text2015.proofs.Parts.{line-record}
 use borrow.Author.Needs.{needs}
 use Rattle.text2015.proofs.consumers.write_consumers.Statement.{statement}
 use Rattle.text2015.proofs.consumers.write_consumers.Tie as tie
@@ -84,9 +85,9 @@ loop-again c =
     let lt = t .if1 .taken in
     let f = c .before .before .before .before .line-of .ensures ∙ ap lineOf (here k) in
     let next =
-    next-record 17 (l .c) (record2015 m) _ _ (length-record m) (omega (arith, lt, a .pre .1)) (l .inv .0) (line-record m (l .c) f) (c .before .before .write-line .ensures) in (
+    next-record 17 (l .c) (record2015 m) _ _ (length-record-2015 m) (omega (arith, lt, a .pre .1)) (l .inv .0) (line-record m (l .c) f) (c .before .before .write-line .ensures) in (
       next,
-      ap length next ∙ length-over (joined (record2015 m) (l .c + 1)) (a .args .out .now) (rw (length-joined (record2015 m) 17 (length-record m)) (omega (arith, lt, a .pre .1))),
+      ap length next ∙ length-over (joined (record2015 m) (l .c + 1)) (a .args .out .now) (rw (length-joined (record2015 m) 17 (length-record-2015 m)) (omega (arith, lt, a .pre .1))),
       omega (arith, lt),
     )
 
