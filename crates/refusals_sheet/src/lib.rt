@@ -133,13 +133,13 @@ pub fn sheet_refusal(s: &[u8]) -> u8
 pub fn result_refusal(s: &[u8], needed: usize, room: usize) -> u8
     ensures { λ r. ⌜ r ≡ firstOf (testsFor needed (now (s .entry)) room) ⌝ }
 {
-    let form = form_refusal(s);
-    if form != 0 {
-        return form;
+    let first_six = form_refusal(s);
+    if first_six != 0 {
+        return first_six;
     }
-    let short = room_refusal(needed, room);
-    if short != 0 {
-        return short;
+    let seven = room_refusal(needed, room);
+    if seven != 0 {
+        return seven;
     }
     figure_refusal(s, layout(s))
 }
