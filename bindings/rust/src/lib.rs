@@ -9,7 +9,7 @@ mod lists;
 mod pieces;
 mod records;
 
-pub use figures::{ConsumerLine, Figures, RowLine, Totals};
+pub use figures::{ConsumerLine, Figures, Figures2015, Line2015, RowLine, Totals};
 pub use lists::{list_length, write_list, Transfer, LIST_ENTRY, LIST_FRONT};
 pub use records::{record_length, write_record, Hour, LARGEST_RECORD, RECORD_FRONT, RECORD_HOUR};
 
@@ -18,6 +18,9 @@ pub const LARGEST_SHEET: usize = 14 + 6 * (42 + 288 * 31) + 10 * 32 + 15 * 32;
 
 /// The longest result, in bytes: 32 rows, 32 consumers. A buffer of this size is long enough for every sheet.
 pub const LARGEST_RESULT: usize = 21 + 16 * 32 + 25 * 32;
+
+/// The longest result under the text of 2015, in bytes: 32 consumers.
+pub const LARGEST_RESULT_2015: usize = 4 + 17 * 32;
 
 /// Why a sheet, a list or a record was turned down: the first of the numbers of docs/RULES.md that applies, in the
 /// order in which they are tried. Every byte of the buffers keeps what it had.
@@ -105,11 +108,21 @@ extern "C" {
     fn capacity_settle(sheet: *const u8, sheet_length: usize, result: *mut u8, result_length: usize) -> i64;
     fn capacity_transfer(sheet: *mut u8, sheet_length: usize, list: *const u8, list_length: usize) -> i64;
     fn capacity_average(sheet: *mut u8, sheet_length: usize, record: *const u8, record_length: usize) -> i64;
+    fn capacity_settle_2015(sheet: *const u8, sheet_length: usize, result: *mut u8, result_length: usize) -> i64;
 }
 
 /// A refusal from an answer below 0. By its contract that is minus a number from 1 to 17, which fits.
 fn refusal(answer: i64) -> Refusal {
     Refusal(answer.unsigned_abs() as u8)
+}
+
+/// The answer of an entry that writes a result. By its contract it is the count of bytes, above 0, or a refusal.
+fn written(answer: i64) -> Result<usize, Refusal> {
+    if answer > 0 {
+        Ok(answer as usize)
+    } else {
+        Err(refusal(answer))
+    }
 }
 
 /// The answer of an entry that changes a sheet in place. By its contract it is 0, or a refusal.
@@ -138,13 +151,7 @@ pub fn settle(sheet: &[u8], result: &mut [u8]) -> Result<usize, Refusal> {
     //   module reads and writes nothing through it.
     // - No overlap: `result` is borrowed mutably, so no other borrow reaches its bytes.
     // - The module writes to `result` alone and keeps neither pointer, so both borrows may end with the call.
-    let answer = unsafe { capacity_settle(sheet.as_ptr(), sheet.len(), result.as_mut_ptr(), result.len()) };
-    // By its contract: a count from 21 to LARGEST_RESULT, or a refusal.
-    if answer > 0 {
-        Ok(answer as usize)
-    } else {
-        Err(refusal(answer))
-    }
+    written(unsafe { capacity_settle(sheet.as_ptr(), sheet.len(), result.as_mut_ptr(), result.len()) })
 }
 
 /// Applies a month's list of transfers to the contract volumes in its sheet, entry by entry in the list's order.
@@ -180,4 +187,21 @@ pub fn transfer(sheet: &mut [u8], list: &[u8]) -> Result<(), Refusal> {
 pub fn average(sheet: &mut [u8], record: &[u8]) -> Result<(), Refusal> {
     // SAFETY: as in `transfer`, with `record` for `list`.
     changed(unsafe { capacity_average(sheet.as_mut_ptr(), sheet.len(), record.as_ptr(), record.len()) })
+}
+
+/// Settles the consumers of one month's sheet under the text of 2015 into a result buffer: an old act is opened again
+/// with it.
+///
+/// The sheet is the same as for [`settle`], and the whole of it is tried; the text reads contract volumes, peaks and
+/// prices. The answer is the count of bytes written to the buffer's front: 4 + 17 for each consumer, at most
+/// [`LARGEST_RESULT_2015`]. Bytes past them keep what they had. [`Figures2015`] reads them.
+///
+/// # Errors
+///
+/// The [`Refusal`] of a sheet that is turned down; [`Refusal::SHORT_BUFFER`] is about this result. Every byte of the
+/// buffer then keeps what it had.
+#[allow(unsafe_code)]
+pub fn settle_2015(sheet: &[u8], result: &mut [u8]) -> Result<usize, Refusal> {
+    // SAFETY: as in `settle`.
+    written(unsafe { capacity_settle_2015(sheet.as_ptr(), sheet.len(), result.as_mut_ptr(), result.len()) })
 }

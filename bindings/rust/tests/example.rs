@@ -2,7 +2,7 @@
 mod common;
 
 use capacity::{settle, Refusal, LARGEST_RESULT, LARGEST_SHEET, LIST_ENTRY, LIST_FRONT};
-use capacity::{LARGEST_RECORD, RECORD_FRONT, RECORD_HOUR};
+use capacity::{LARGEST_RECORD, LARGEST_RESULT_2015, RECORD_FRONT, RECORD_HOUR};
 use common::{EXAMPLE, EXAMPLE_RESULT};
 
 /// Takes a field off the front.
@@ -34,12 +34,14 @@ fn lengths_are_those_of_the_c_header() {
     let header = include_str!("../../../include/capacity.h");
     assert!(header.contains(&format!("#define CAPACITY_LARGEST_SHEET {LARGEST_SHEET}\n")));
     assert!(header.contains(&format!("#define CAPACITY_LARGEST_RESULT {LARGEST_RESULT}\n")));
+    assert!(header.contains(&format!("#define CAPACITY_LARGEST_RESULT_2015 {LARGEST_RESULT_2015}\n")));
     assert!(header.contains(&format!("#define CAPACITY_LIST_FRONT {LIST_FRONT}\n")));
     assert!(header.contains(&format!("#define CAPACITY_LIST_ENTRY {LIST_ENTRY}\n")));
     assert!(header.contains(&format!("#define CAPACITY_RECORD_FRONT {RECORD_FRONT}\n")));
     assert!(header.contains(&format!("#define CAPACITY_RECORD_HOUR {RECORD_HOUR}\n")));
     assert!(header.contains(&format!("#define CAPACITY_LARGEST_RECORD {LARGEST_RECORD}\n")));
     assert_eq!((LARGEST_SHEET, LARGEST_RESULT, LARGEST_RECORD), (54_634, 1_333, 5_961));
+    assert_eq!(LARGEST_RESULT_2015, 548);
 }
 
 #[test]
