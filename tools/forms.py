@@ -129,7 +129,7 @@ def consumer_lines(given, edition, by_consumer, totals):
 
 
 def columns_of(given, kinds):
-    """The keys of a record's figures in a table: those of the sheet, those of the result; the price before the money."""
+    """The keys of a record's figures in a table: the sheet's, the result's; the price before the money."""
     *keys, money = keys_of(kinds)
     return [*given, *keys, "price", money]
 
