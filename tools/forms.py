@@ -166,7 +166,7 @@ def as_csv(answers):
     lines = csv.DictWriter(text, COLUMNS[answers[0].edition], lineterminator="\n")
     lines.writeheader()
     for answer in answers:
-        heading = answer.heading() | {kind.many: " ".join(answer.names_of(kind)) for kind in CHANGES}
+        heading = {**answer.heading(), **{kind.many: " ".join(answer.names_of(kind)) for kind in CHANGES}}
         lines.writerows({**heading, **record} for record in csv_records(answer))
     return text.getvalue()
 
