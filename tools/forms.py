@@ -10,16 +10,22 @@ from typing import NamedTuple
 from changing import Change
 from inputs import CHANGES, Given
 from printing import WEEKDAYS, party_cells, table_lines
-from records import CAPACITY, PRICE, SINGLE_BUYER, SINGLE_BUYER_WORDS, Z, Header, Sheet, figures_of_result
+from records import CAPACITY, PRICE, SINGLE_BUYER, SINGLE_BUYER_WORDS, Header, Sheet
+from results import IN_FORCE, OF_2015, Edition, texts_of
 
-ROW_HEADS = (("row", ""), ("producer", ""), ("buyer", ""), ("volume", "MW"), ("after the cut", "MW"), ("actual", "MW"),
-             ("price", "tenge/MW"), ("payment", "tenge"))
-CONSUMER_HEADS = (("consumer", ""), ("contract", "MW"), ("peak", "MW"), ("credit", "MW"), ("percent", ""), ("n", ""),
-                  ("actual", "MW"), ("price", "tenge/MW"), ("charge", "tenge"))
-COLUMNS = ("month", "record", "row", "producer", "producer_name", "consumer", "consumer_name", "volume",
-           "contract_volume", "peak", "price", "volume_after_cut", "credit", "percent", "n", "actual_volume", "payment",
-           "charge", "refusal", "words", "byte", "field",
-           *(key for kind in CHANGES for key in (kind.one, kind.many)))
+# The columns of a table, with their units, by the keys of the figures.
+HEADS = {"volume": ("volume", "MW"), "volume_after_cut": ("after the cut", "MW"), "contract_volume": ("contract", "MW"),
+         "peak": ("peak", "MW"), "credit": ("credit", "MW"), "percent": ("percent", ""), "n": ("n", ""),
+         "factor": ("factor", ""), "actual_volume": ("actual", "MW"), "price": ("price", "tenge/MW"),
+         "payment": ("payment", "tenge"), "charge": ("charge", "tenge")}
+REFUSAL_COLUMNS = ("refusal", "words", "byte", "field", *(key for kind in CHANGES for key in (kind.one, kind.many)))
+COLUMNS = {
+    IN_FORCE: ("month", "record", "row", "producer", "producer_name", "consumer", "consumer_name", "volume",
+               "contract_volume", "peak", "price", "volume_after_cut", "credit", "percent", "n", "actual_volume",
+               "payment", "charge", *REFUSAL_COLUMNS),
+    OF_2015: ("month", "text", "record", "consumer", "consumer_name", "contract_volume", "peak", "price", "factor",
+              "volume", "charge", *REFUSAL_COLUMNS),
+}
 
 
 class Refused(NamedTuple):
@@ -32,6 +38,7 @@ class Refused(NamedTuple):
 
 
 class Answer(NamedTuple):
+    edition: Edition     # the text of the order that it is settled under
     given: Given         # the month as it was settled: after its lists and records
     listing: str         # as the program printed it
     refused: Refused     # or None,
@@ -42,29 +49,41 @@ class Answer(NamedTuple):
         """The names of the lists, or of the records, in their order."""
         return [in_utf8(each.name) for each in self.changes if isinstance(each, kind)]
 
+    def heading(self):
+        """What tells a month from others for programs: its name, the text if it is not the one in force, its lists and
+        its records."""
+        text = {"text": self.edition.year} if self.edition.year else {}
+        return {"month": in_utf8(self.given.name), **text, **{kind.many: self.names_of(kind) for kind in CHANGES}}
+
 
 # ------------------------------------------------------------------ records with names and figures
 
 
 def records_of(answer):
     """The rows, the consumers and the totals of a settled month, each figure as the listing or the sheet has it."""
-    sheet, names = Sheet.from_bytes(answer.given.content), answer.given.names
-    rows, consumers, totals = figures_of_result(len(sheet.rows), len(sheet.consumers), answer.result)
+    sheet, names, edition = Sheet.from_bytes(answer.given.content), answer.given.names, answer.edition
+    rows, consumers, totals = edition.figures(len(sheet.rows), len(sheet.consumers), answer.result)
     by_row = [{
         "row": number, "producer": row.producer, "producer_name": names.of("producer", row.producer),
         "consumer": SINGLE_BUYER_WORDS if row.consumer == SINGLE_BUYER else row.consumer,
         "consumer_name": names.of("consumer", row.consumer),
-        "volume": CAPACITY.text(row.volume), "price": PRICE.text(row.price),
-        "volume_after_cut": CAPACITY.text(figures.after_cut), "actual_volume": CAPACITY.text(figures.actual),
-        "payment": PRICE.text(figures.payment),
+        "volume": CAPACITY.text(row.volume), "price": PRICE.text(row.price), **keyed(edition.rows, figures),
     } for number, (row, figures) in enumerate(zip(sheet.rows, rows))]
     by_consumer = [{
         "consumer": number, "consumer_name": names.of("consumer", number),
         "contract_volume": CAPACITY.text(consumer.contract), "peak": CAPACITY.text(consumer.peak),
-        "price": PRICE.text(consumer.price), "credit": CAPACITY.text(figures.credit), "percent": Z.text(figures.p),
-        "n": Z.text(figures.n), "actual_volume": CAPACITY.text(figures.actual), "charge": PRICE.text(figures.charge),
+        "price": PRICE.text(consumer.price), **keyed(edition.consumers, figures),
     } for number, (consumer, figures) in enumerate(zip(sheet.consumers, consumers))]
-    return by_row, by_consumer, {"paid": PRICE.text(totals[0]), "charged": PRICE.text(totals[1])}
+    return by_row, by_consumer, keyed(edition.totals, totals)
+
+
+def keyed(kinds, figures):
+    """The figures of a record under their keys."""
+    return dict(zip(keys_of(kinds), texts_of(kinds, figures)))
+
+
+def keys_of(kinds):
+    return [key for key, _ in kinds]
 
 
 # ------------------------------------------------------------------ forms
@@ -80,26 +99,47 @@ def as_table(answers):
 
 
 def month_lines(answer):
-    given, refused = answer.given, answer.refused
+    given, refused, edition = answer.given, answer.refused, answer.edition
     if refused:
         lines = [f"{given.name}: refused by {refused.number}: {refused.words}"]
         return lines + ([refused.line] if refused.line else [])
     by_row, by_consumer, totals = records_of(answer)
-    parties = [party_cells(row, given.names) for row in Sheet.from_bytes(given.content).rows]
-    rows = [[str(row["row"]), *party, *(parted(row[key]) for key in (
-        "volume", "volume_after_cut", "actual_volume", "price", "payment"))] for row, party in zip(by_row, parties)]
-    rows.append(["", "total paid", *[""] * 5, parted(totals["paid"])])
-    consumers = [[given.names.cell("consumer", consumer["consumer"]), *(parted(consumer[key]) for key in (
-        "contract_volume", "peak", "credit", "percent", "n", "actual_volume", "price", "charge"))]
-        for consumer in by_consumer]
-    consumers.append(["total charged", *[""] * 7, parted(totals["charged"])])
     title = ", after ".join([month_words(given), *(each.name for each in answer.changes)])
-    return [f"{given.name}: {title}", "", *headed(ROW_HEADS, rows, (1, 2)), "",
-            *headed(CONSUMER_HEADS, consumers, (0,))]
+    lines = [f"{given.name}: {title}{f', {edition.title}' if edition.title else ''}"]
+    if edition.rows:
+        lines += ["", *row_lines(given, edition, by_row, totals)]
+    return lines + ["", *consumer_lines(given, edition, by_consumer, totals)]
 
 
-def headed(heads, lines, left):
-    names, units = zip(*heads)
+def row_lines(given, edition, by_row, totals):
+    columns = columns_of(("volume",), edition.rows)
+    parties = [party_cells(row, given.names) for row in Sheet.from_bytes(given.content).rows]
+    lines = [[str(row["row"]), *party, *cells_of(row, columns)] for row, party in zip(by_row, parties)]
+    lines.append(["", "total paid", *[""] * len(columns), parted(totals["paid"])])
+    return headed(("row", "producer", "buyer"), columns, lines, (1, 2))
+
+
+def consumer_lines(given, edition, by_consumer, totals):
+    columns = columns_of(("contract_volume", "peak"), edition.consumers)
+    lines = [[given.names.cell("consumer", consumer["consumer"]), *cells_of(consumer, columns)]
+             for consumer in by_consumer]
+    if totals:
+        lines.append(["total charged", *[""] * (len(columns) - 1), parted(totals["charged"])])
+    return headed(("consumer",), columns, lines, (0,))
+
+
+def columns_of(given, kinds):
+    """The keys of a record's figures in a table: the sheet's, the result's; the price before the money."""
+    *keys, money = keys_of(kinds)
+    return [*given, *keys, "price", money]
+
+
+def cells_of(record, columns):
+    return [parted(record[key]) for key in columns]
+
+
+def headed(heads, columns, lines, left):
+    names, units = zip(*((head, "") for head in heads), *(HEADS[key] for key in columns))
     return table_lines(names, [units, *lines], left)
 
 
@@ -123,12 +163,11 @@ def in_utf8(text):
 def as_csv(answers):
     """A line for each record of each month: row, consumer, totals or refusal. What a record does not have is empty."""
     text = io.StringIO()
-    lines = csv.DictWriter(text, COLUMNS, lineterminator="\n")
+    lines = csv.DictWriter(text, COLUMNS[answers[0].edition], lineterminator="\n")
     lines.writeheader()
     for answer in answers:
-        names = {kind.many: " ".join(answer.names_of(kind)) for kind in CHANGES}
-        month = {"month": in_utf8(answer.given.name), **names}
-        lines.writerows({**month, **record} for record in csv_records(answer))
+        heading = {**answer.heading(), **{kind.many: " ".join(answer.names_of(kind)) for kind in CHANGES}}
+        lines.writerows({**heading, **record} for record in csv_records(answer))
     return text.getvalue()
 
 
@@ -138,9 +177,10 @@ def csv_records(answer):
         yield {"record": "refusal", "refusal": refusal.pop("number"), **refusal}
         return
     by_row, by_consumer, totals = records_of(answer)
-    for record, found in (("row", by_row), ("consumer", by_consumer),
-                          ("totals", [{"payment": totals["paid"], "charge": totals["charged"]}])):
-        yield from ({"record": record, **each} for each in found)
+    yield from ({"record": "row", **row} for row in by_row)
+    yield from ({"record": "consumer", **consumer} for consumer in by_consumer)
+    if totals:
+        yield {"record": "totals", "payment": totals["paid"], "charge": totals["charged"]}
 
 
 def refusal_record(refused):
@@ -154,9 +194,9 @@ def as_json(answers):
     months = []
     for answer in answers:
         rows, consumers, totals = ([], [], None) if answer.refused else records_of(answer)
-        months.append({"month": in_utf8(answer.given.name), **{kind.many: answer.names_of(kind) for kind in CHANGES},
-                       "refusal": answer.refused and refusal_record(answer.refused), "rows": rows,
-                       "consumers": consumers, "totals": totals})
+        found = {"rows": rows, "consumers": consumers, "totals": totals}
+        months.append({**answer.heading(), "refusal": answer.refused and refusal_record(answer.refused),
+                       **{part: found[part] for part in found if getattr(answer.edition, part)}})
     return json.dumps(months, indent=1) + "\n"
 
 

@@ -1,5 +1,5 @@
-"""What is given to a command: months, and what changes them first, lists of transfers and records of complexes; all in
-bytes or as texts, which are packed."""
+"""What is given to a command: months, and what changes them first, lists of transfers and records of complexes, all in
+bytes or as texts, which are packed; the text of the order that holds."""
 import argparse
 from typing import NamedTuple
 
@@ -10,6 +10,7 @@ from kinds import LISTS, MONTH_TEXT, MONTHS, RECORDS, kind_of
 from monthtext import Faults, read_month_text
 from names import NO_NAMES, Names
 from refusals import HANDED_OVER
+from results import IN_FORCE, OF_2015
 from transfers import GivenList
 
 MOST_READ = 2 ** 25     # bytes of a sheet, list or record that are looked at; no text packs into more
@@ -51,6 +52,12 @@ def read_given(path):
         return Given(str(path), text.sheet.to_bytes(), text.names, text.title, text.files, True)
     files = [] if path == STANDARD else [path]
     return Given(name_of(path), read_bytes(path, MOST_READ), NO_NAMES, "", files, False)
+
+
+def add_edition(command, words):
+    """The option for the text of 2015, in place of the one in force."""
+    command.add_argument("--text-2015", dest="edition", action="store_const", const=OF_2015, default=IN_FORCE,
+                         help=words)
 
 
 # ------------------------------------------------------------------ lists and records

@@ -1,7 +1,7 @@
-"""A sheet as tables for people, and a result as the listing prints it."""
+"""A sheet as tables for people."""
 from names import NO_NAMES, width
-from records import (CAPACITY, CONSUMER_FIELDS, HEADER, HEADER_FIELDS, PRICE, PRODUCER_FIELDS, ROW_FIELDS,
-                     SINGLE_BUYER, SINGLE_BUYER_WORDS, Header, Sheet, figures_of_result)
+from records import (CAPACITY, CONSUMER_FIELDS, HEADER, HEADER_FIELDS, PRODUCER_FIELDS, ROW_FIELDS, SINGLE_BUYER,
+                     SINGLE_BUYER_WORDS, Header, Sheet)
 
 WEEKDAYS = ("Monday", "Tuesday", "Wednesday", "Thursday", "Friday", "Saturday", "Sunday")
 PRODUCER_HEADS = ("producer", "attested", "deductible", "own needs", "no upward bid", "no downward bid", "no plan",
@@ -97,19 +97,3 @@ def end_lines(content, header):
     if header.sheet_length < len(content):
         return ["", f"The last record ends after {header.sheet_length} bytes; the sheet has {len(content)}."]
     return []
-
-
-# ------------------------------------------------------------------ a result as the listing
-
-
-def listing_lines(rows, consumers, result):
-    """The lines that the program prints for a result with so many rows and consumers."""
-    by_row, by_consumer, totals = figures_of_result(rows, consumers, result)
-    lines = []
-    for number, row in enumerate(by_row):
-        lines.append([f"R{number}", CAPACITY.text(row.after_cut), CAPACITY.text(row.actual), PRICE.text(row.payment)])
-    for number, consumer in enumerate(by_consumer):
-        tenths = (consumer.credit, consumer.p, consumer.n, consumer.actual)
-        lines.append([f"C{number}", *map(CAPACITY.text, tenths), PRICE.text(consumer.charge)])
-    lines.append(["T", *map(PRICE.text, totals)])
-    return [" ".join(line) for line in lines]

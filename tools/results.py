@@ -1,41 +1,41 @@
-"""The figures of a result: taken from the program's listing, laid out as bytes, held against the sheet."""
+"""The result of a settlement: taken from the program's listing, laid out as bytes, listed, held against the sheet.
+
+A month is settled under the text of the order that is in force or, for old acts, under that of 2015.
+"""
 import re
 import struct
+from typing import Callable, NamedTuple
 
-from printing import listing_lines
-from records import CAPACITY, PRICE, SINGLE_BUYER, Z, ConsumerFigures, Header, RowFigures, result_of, rounded
+from records import (CAPACITY, PRICE, SINGLE_BUYER, Z, Header, figures_of_result, result_2015_figures,
+                     result_2015_length, result_2015_of, result_length, result_of, rounded)
 
 REFUSED = re.compile(r"N([0-9]+)\n")
 FIGURE = re.compile(r"[0-9]+\.[0-9]+")
-BANDS = ((50, 0), (200, 13), (400, 15), (500, 17))    # the upper edge of p, n in tenths
-ABOVE_BANDS = 20
-OVER_NOTHING = 501                                    # p of an excess over a contract volume of 0
-
-# ------------------------------------------------------------------ the program's listing
-
-
-def refusal_of_listing(listing):
-    """The number of a refusal, or None."""
-    found = REFUSED.fullmatch(listing)
-    return int(found.group(1)) if found else None
-
-
-def result_of_listing(listing, content):
-    """The bytes of the result that a listing prints, or None if it is no listing of this sheet. It has every figure
-    without loss; the bytes, read back and listed again, are to give it letter by letter."""
-    try:
-        rows, consumers = Header.from_bytes(content)[-2:]
-        figures = [[int(word.replace(".", "")) for word in line.split(" ")[1:] if FIGURE.fullmatch(word)]
-                   for line in listing.splitlines()]
-        result = result_of([RowFigures(*line) for line in figures[:rows]],
-                           [ConsumerFigures(*line) for line in figures[rows:rows + consumers]], figures[-1])
-    except (TypeError, ValueError, IndexError, struct.error):
-        return None
-    listed = "".join(f"{line}\n" for line in listing_lines(rows, consumers, result))
-    return result if listed == listing else None
-
 
 # ------------------------------------------------------------------ a result against its sheet
+
+
+class Bands(NamedTuple):
+    """A band table."""
+    whole: int      # the parts of the reference in which an excess is counted
+    edges: tuple    # each band's upper edge, in these parts, with its n or factor in tenths
+    above: int      # n or factor above the last edge
+
+    def parts(self, excess, reference):
+        """An excess in parts of its reference; over a reference of 0 it is above the last edge."""
+        if reference == 0:
+            return self.edges[-1][0] + 1 if excess else 0
+        return rounded(self.whole * excess, reference)
+
+    def factor(self, parts):
+        return next((factor for edge, factor in self.edges if parts <= edge), self.above)
+
+    def factors(self):
+        return [*(factor for _, factor in self.edges), self.above]
+
+
+BANDS = Bands(1000, ((50, 0), (200, 13), (400, 15), (500, 17)), 20)
+BANDS_2015 = Bands(10_000, ((500, 10), (1000, 11), (2000, 12)), 15)
 
 
 def impossible(rows, consumers, totals, sheet=None):
@@ -61,19 +61,20 @@ def row_faults(row, given):
         return
     if row.after_cut > given.volume:
         yield f"volume after the cut {CAPACITY.text(row.after_cut)} is above the sheet's, {CAPACITY.text(given.volume)}"
-    yield from money_faults("payment", row.payment, row.actual, given.price)
+    yield from money_faults("payment", row.payment, "actual volume", row.actual, given.price)
 
 
-def money_faults(words, money, volume, price):
+def money_faults(words, money, volume_words, volume, price):
     wanted = rounded(volume * price, 10)
     if money != wanted:
-        yield (f"{words} {PRICE.text(money)} is not actual volume × price, "
+        yield (f"{words} {PRICE.text(money)} is not {volume_words} × price, "
                f"{CAPACITY.text(volume)} × {PRICE.text(price)} = {PRICE.text(wanted)}")
 
 
 def own_faults(consumer):
-    if consumer.n != band(consumer.p):
-        yield f"n {Z.text(consumer.n)} is not that of {Z.text(consumer.p)} percent, {Z.text(band(consumer.p))}"
+    n = BANDS.factor(consumer.p)
+    if consumer.n != n:
+        yield f"n {Z.text(consumer.n)} is not that of {Z.text(consumer.p)} percent, {Z.text(n)}"
 
 
 def consumer_faults(consumer, number, rows, sheet):
@@ -85,7 +86,7 @@ def consumer_faults(consumer, number, rows, sheet):
                f"{CAPACITY.text(brought)}")
     counted = max(given.peak - consumer.credit, 0)
     excess = max(20 * counted - 21 * given.contract, 0)     # over 1.05 × contract volume, in twentieths
-    percent = thousandths(excess, 20 * given.contract)
+    percent = BANDS.parts(excess, 20 * given.contract)
     if consumer.p != percent:
         yield (f"percent {Z.text(consumer.p)} is not that of the counted peak {CAPACITY.text(counted)} over contract "
                f"volume {CAPACITY.text(given.contract)}, {Z.text(percent)}")
@@ -94,17 +95,7 @@ def consumer_faults(consumer, number, rows, sheet):
     if consumer.actual != volume:
         yield (f"actual volume {CAPACITY.text(consumer.actual)} is not what contract volume, n, mining days and z "
                f"give, {CAPACITY.text(volume)}")
-    yield from money_faults("charge", consumer.charge, consumer.actual, given.price)
-
-
-def thousandths(excess, reference):
-    if reference == 0:
-        return OVER_NOTHING if excess else 0
-    return rounded(1000 * excess, reference)
-
-
-def band(p):
-    return next((n for edge, n in BANDS if p <= edge), ABOVE_BANDS)
+    yield from money_faults("charge", consumer.charge, "actual volume", consumer.actual, given.price)
 
 
 def volume_of(given, excess, n, days):
@@ -112,3 +103,100 @@ def volume_of(given, excess, n, days):
     bracket = 200 * given.contract + (n * (excess - given.contract) if n else 0)
     factors = (days + 100 * given.supplier_days) * (days + 100 * given.grid_days) * given.z
     return rounded(max(bracket, 0) * factors, 200 * days * days * 10)
+
+
+def impossible_2015(_rows, consumers, _totals, sheet=None):
+    """The same under the text of 2015, whose result has consumers alone."""
+    for number, consumer in enumerate(consumers):
+        for words in faults_2015(consumer, sheet.consumers[number]) if sheet else own_faults_2015(consumer):
+            yield f"consumer {number}: {words}"
+
+
+def own_faults_2015(consumer):
+    if consumer.factor not in BANDS_2015.factors():
+        yield f"factor {Z.text(consumer.factor)} is none of {', '.join(map(Z.text, BANDS_2015.factors()))}"
+
+
+def faults_2015(consumer, given):
+    excess = max(given.peak - given.contract, 0)
+    factor = BANDS_2015.factor(BANDS_2015.parts(excess, given.contract))
+    if consumer.factor != factor:
+        yield (f"factor {Z.text(consumer.factor)} is not that of the peak {CAPACITY.text(given.peak)} over contract "
+               f"volume {CAPACITY.text(given.contract)}, {Z.text(factor)}")
+    volume = rounded(given.contract * consumer.factor, 10)
+    if consumer.volume != volume:
+        yield (f"volume {CAPACITY.text(consumer.volume)} is not contract volume × factor, "
+               f"{CAPACITY.text(given.contract)} × {Z.text(consumer.factor)} = {CAPACITY.text(volume)}")
+    yield from money_faults("charge", consumer.charge, "volume", consumer.volume, given.price)
+
+
+# ------------------------------------------------------------------ the texts of the order
+
+
+class Edition(NamedTuple):
+    """A text of the order, with the form of its result. The figures of a record are keys for programs with their units,
+    in the order of result and listing; a result that has no such record has none."""
+    year: str               # of a text that is no longer in force, else ""
+    rows: tuple
+    consumers: tuple
+    totals: tuple
+    length: Callable        # of a result with so many rows and consumers, in bytes
+    figures: Callable       # of so many rows and consumers in a result's bytes: the rows', the consumers', the totals
+    result: Callable        # the bytes of these, without totals where there are none
+    impossible: Callable    # what no settlement gives, in words, of these and the sheet
+
+    @property
+    def title(self):
+        return f"under the text of {self.year}" if self.year else ""
+
+
+CHARGE = "charge", PRICE
+IN_FORCE = Edition(
+    "", (("volume_after_cut", CAPACITY), ("actual_volume", CAPACITY), ("payment", PRICE)),
+    (("credit", CAPACITY), ("percent", Z), ("n", Z), ("actual_volume", CAPACITY), CHARGE),
+    (("paid", PRICE), ("charged", PRICE)), result_length, figures_of_result, result_of, impossible)
+OF_2015 = Edition(
+    "2015", (), (("factor", Z), ("volume", CAPACITY), CHARGE), (),
+    lambda _rows, consumers: result_2015_length(consumers),
+    lambda _rows, consumers, result: ([], result_2015_figures(result[:result_2015_length(consumers)]), ()),
+    lambda _rows, consumers: result_2015_of(consumers), impossible_2015)
+
+# ------------------------------------------------------------------ the program's listing
+
+
+def texts_of(kinds, figures):
+    """The figures of a record as the listing has them."""
+    return [unit.text(figure) for (_, unit), figure in zip(kinds, figures)]
+
+
+def listing_lines(rows, consumers, totals, edition):
+    """The lines that the program prints for a result with these figures."""
+    lines = [[f"R{number}", *texts_of(edition.rows, row)] for number, row in enumerate(rows)]
+    lines += [[f"C{number}", *texts_of(edition.consumers, consumer)] for number, consumer in enumerate(consumers)]
+    if edition.totals:
+        lines.append(["T", *texts_of(edition.totals, totals)])
+    return [" ".join(line) for line in lines]
+
+
+def refusal_of_listing(listing):
+    """The number of a refusal, or None."""
+    found = REFUSED.fullmatch(listing)
+    return int(found.group(1)) if found else None
+
+
+def result_of_listing(listing, content, edition=IN_FORCE):
+    """The bytes of the result that a listing prints, or None if it is no listing of this sheet. It has every figure
+    without loss; the bytes, read back and listed again, are to give it letter by letter."""
+    try:
+        counts = Header.from_bytes(content)[-2:]
+        rows = counts[0] if edition.rows else 0
+        end = rows + counts[1]
+        figures = [[int(word.replace(".", "")) for word in line.split(" ")[1:] if FIGURE.fullmatch(word)]
+                   for line in listing.splitlines()]
+        result = edition.result(figures[:rows], figures[rows:end], *figures[end:])
+    except (TypeError, ValueError, struct.error):
+        return None
+    if len(result) != edition.length(*counts):
+        return None
+    listed = "".join(f"{line}\n" for line in listing_lines(*edition.figures(*counts, result), edition))
+    return result if listed == listing else None

@@ -1,8 +1,9 @@
 #!/usr/bin/env python3
-"""Makes the stored sheets that the program `listings` prints, and the sheet on the standard input of `settle`.
+"""Makes the stored sheets that the program `listings` prints, and the sheet on the standard input of `settle` and of
+`settle_2015`.
 
-  tools/stored_sheets.py          writes crates/listings/data/* and crates/settle/stdin
-  tools/stored_sheets.py RIVAL    also writes crates/listings/stdout, as the rival program RIVAL lists these sheets
+  tools/stored_sheets.py          writes crates/listings/data/*, crates/settle/stdin and crates/settle_2015/stdin
+  tools/stored_sheets.py RIVAL    also writes the stdout of these three, as the rival program RIVAL lists the sheets
 
 Every figure stands below: capacities and volumes in tenths of a megawatt, prices in tiyn per megawatt and month,
 coefficients in millionths. Nothing is random, so each run writes the same bytes.
@@ -108,14 +109,22 @@ STORED = {
 
 
 def main():
-    (CRATES / "settle/stdin").write_bytes(example())
-    data = CRATES / "listings/data"
+    data, programs = CRATES / "listings/data", {"settle": "list", "settle_2015": "list2015"}
     data.mkdir(exist_ok=True)
     for name, content in STORED.items():
         (data / name).write_bytes(content)
+    for program in programs:
+        (CRATES / program / "stdin").write_bytes(example())
     if len(sys.argv) > 1:
-        lists = [subprocess.run([sys.argv[1], "list", data / name], capture_output=True, check=True).stdout for name in STORED]
-        (CRATES / "listings/stdout").write_bytes(b"".join(lists))
+        write_listed("listings", "list", [data / name for name in STORED])
+        for program, command in programs.items():
+            write_listed(program, command, [CRATES / program / "stdin"])
+
+
+def write_listed(program, command, sheets):
+    """What a program is to print for sheets: their listings by the rival."""
+    lists = [subprocess.run([sys.argv[1], command, path], capture_output=True, check=True).stdout for path in sheets]
+    (CRATES / program / "stdout").write_bytes(b"".join(lists))
 
 
 if __name__ == "__main__":

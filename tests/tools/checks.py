@@ -13,8 +13,10 @@ ROOT = Path(__file__).resolve().parents[2]
 SHEET = ROOT / "tools" / "sheet"
 REPORT = ROOT / "tools" / "report"
 PROGRAM = ROOT / "target" / "bin" / "settle"
+PROGRAM_2015 = ROOT / "target" / "bin" / "settle_2015"
 TRANSFER_PROGRAM = ROOT / "target" / "bin" / "transfer_sheet"
 AVERAGE_PROGRAM = ROOT / "target" / "bin" / "average_sheet"
+PROGRAMS = PROGRAM, PROGRAM_2015, TRANSFER_PROGRAM, AVERAGE_PROGRAM      # which ./settle builds
 EXAMPLES = ROOT / "examples"
 
 
@@ -94,6 +96,11 @@ def report(*words, program=PROGRAM, transfer_program=TRANSFER_PROGRAM, average_p
     """tools/report, in this process."""
     return run_here(REPORT, "--program", program, "--transfer-program", transfer_program, "--average-program",
                     average_program, *words, **more)
+
+
+def report_2015(*words, program=PROGRAM_2015, **more):
+    """The same under the text of 2015."""
+    return report("--text-2015", *words, program=program, **more)
 
 
 def run_here(command, *words, stdin=b"", folder=None):

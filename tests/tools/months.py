@@ -126,11 +126,11 @@ def test_readmes():
                                     *records.ENTRY_FIELDS, *records.COMPLEX_FIELDS[1:],
                                     *records.COMPLEX_HOUR_FIELDS)]
     for key in (*keys, *monthtext.TOP_KEYS[:5], "name", "hours", monthtext.csv_head(records.HOUR_FIELDS),
-                *forms.COLUMNS):
+                *(key for columns in forms.COLUMNS.values() for key in columns)):
         check(f"`{key}`" in readme, f"tools/README.md names {key}")
     usage = run(ROOT / "settle", "--help").stdout.decode()
-    for option in ("--table", "--csv", "--json", "--explain", "--transfers", "--complex", "--sheet", "--result",
-                   "--force", "--strict", "--version"):
+    for option in ("--text-2015", "--table", "--csv", "--json", "--explain", "--transfers", "--complex", "--sheet",
+                   "--result", "--force", "--strict", "--version"):
         check(option in usage and f"`{option}" in readme, f"{option} stands in tools/README.md and ./settle --help")
     for words in (readme, usage, sheet("--help").stdout.decode()):
         words = " ".join(words.split())

@@ -5,12 +5,13 @@ import subprocess
 import time
 from hashlib import sha256
 
-from checks import CHANGES, EXAMPLES, LISTS, PROGRAM, RECORDS, ROOT, check, files_in, run, sheet, words_of
+from checks import CHANGES, EXAMPLES, LISTS, PROGRAMS, RECORDS, ROOT, check, files_in, run, sheet, words_of
+from text_2015 import by_rival
 from texts import BACK, GOOD, changed
 from use import NOT_A_LIST, NOT_A_MONTH, NOT_A_RECORD, RECORD_NO_LIST, RECORD_NO_MONTH
 
 TOOLS_USED = ("sh", "dirname", "readlink", "find", "cat", "mkdir", "mv", "rm", "cp", "mktemp", "chmod", "awk", "sleep",
-              "sort", "xargs", "sha256sum", "cut", "git", "python3", "env", "wc")
+              "sort", "xargs", "sha256sum", "cut", "git", "python3", "env", "wc", "od")
 STAND_IN = """\
 #!/bin/sh
 # rt in the tests: eats its standard input, counts its checks, and puts the program of a crate into place.
@@ -34,6 +35,7 @@ rules:
 laws: rules  # and more
 other: rules
 settle: rules laws io libc
+settle_2015: rules laws io libc
 transfer_sheet: rules laws other io libc
 average_sheet: rules laws other io libc
 """
@@ -55,7 +57,7 @@ class House:
         (self.bin / "rt").write_text(STAND_IN)
         (self.bin / "rt").chmod(0o755)
         self.beside_rt("version").write_text("kit 1\n")
-        for program in (PROGRAM, *(kind.program for kind in CHANGES)):
+        for program in PROGRAMS:
             shutil.copy(program, self.beside_rt(program.name))
         self.source = self.root / "crates" / "rules" / "src"
         self.source.mkdir(parents=True)
@@ -131,7 +133,7 @@ def test_building(folder):
     house.settles("another version of rt", 1, b"up to date")
     (house.root / "target" / "bin" / "settle").unlink()
     house.settles("a program that is gone", 1, b"some minutes")
-    check(not any(house.checks(kind.program.name) for kind in CHANGES), "settle: without changes, only settle is built")
+    check(not any(house.checks(program.name) for program in PROGRAMS[1:]), "settle: no other program is built")
     house.settles("at the end", 0)
     done = run(house.root / "settle", stdin=EXAM, path=house.bin_without_rt)
     check(done.stdout == LISTINGS["exam-126"] and not done.stderr, "settle: an up-to-date program needs no rt",
@@ -184,6 +186,7 @@ def test_output(folder):
     house = House(folder)
     for kind in CHANGES:
         house.settle(kind.option, kind.files()[1], "examples/month.sheet")
+    house.settle("--text-2015", "examples/old-act.sheet")
     env = dict(os.environ, PATH=f"{house.bin}:/usr/bin:/bin")
 
     def shell(line):
@@ -192,7 +195,8 @@ def test_output(folder):
                   "examples/small.toml", "--table examples/small.sheet", "--csv examples/small.toml",
                   "--json examples/small.toml", "--transfers examples/transfers.list examples/month.sheet",
                   "--transfers examples/refused-15.csv examples/month.sheet",
-                  "--complex examples/plant.complex examples/month.sheet", "--help", "--version"):
+                  "--complex examples/plant.complex examples/month.sheet", "--text-2015 examples/old-act.sheet",
+                  "--text-2015 --csv examples/old-act.toml", "--help", "--version"):
         for place in (">/dev/full", ">&-"):
             done = shell(f"./settle {words} {place}")
             said = done.stderr.decode()
@@ -506,6 +510,116 @@ def check_other_output(kind, house):
     done = house.settle(kind.option, packed, MONTH)
     check(done.returncode == 2 and b"settle: the program failed on " in done.stderr,
           f"settle {kind.option}: a failure", words_of(done))
+
+
+def test_text_2015(folder):
+    """--text-2015: its own program is built, and no other; months, forms, changes, refusals, wrong use, no Python."""
+    house, words = House(folder), ["--text-2015", "examples/old-act.sheet"]
+    wanted = (EXAMPLES / "old-act-2015.listing").read_bytes()
+    house.fails("--text-2015: no rt", "settle: the program settle_2015 is to be proved and built first, and rt", words,
+                commands=house.bin_without_rt)
+    done = house.settle(*words)
+    check(done.stdout == wanted and done.stderr.startswith(b"settle: the program settle_2015 is proved and built first")
+          and done.stderr.endswith(b"rt: settle_2015 proved (4 s), 3 of 3\nrt: ok, 3 crates proved\n"),
+          "settle --text-2015: the first use", words_of(done))
+    for given in (words, [*words, "--text-2015"], ["--text-2015", "examples/old-act.toml"], ["--text-2015", "-"],
+                  ["--text-2015"]):
+        done = house.settle(*given, stdin=(EXAMPLES / "old-act.sheet").read_bytes())
+        check(done.returncode == 0 and done.stdout == wanted and not done.stderr, f"settle {given}", words_of(done))
+    check((house.checks("settle_2015"), house.checks()) == (1, 0), "settle --text-2015: only its program is built")
+    check_months_2015(house)
+    check_changes_2015(house)
+    check_wrong_use_2015(house)
+    check_other_output_2015(house)
+
+
+def check_months_2015(house):
+    """Several months; one without consumers, of which nothing is printed; refusals; forms; a result."""
+    names = sorted(path.name for path in EXAMPLES.glob("*.sheet"))
+    wanted = b"".join(f"{name}:\n".encode() + by_rival(EXAMPLES / name) for name in names)
+    check(b"producer.sheet:\nrefused-1.sheet:\n" in wanted, "a month without consumers stands among the examples")
+    done = house.settle("--text-2015", *names, folder=EXAMPLES)
+    check(done.stdout == wanted and not done.stderr, "settle --text-2015: all examples", words_of(done))
+    done, in_force = (house.settle(*option, "--explain", "--strict", *names, folder=EXAMPLES)
+                      for option in (["--text-2015"], []))
+    check(done.returncode == 1 and done.stdout == wanted and done.stderr.decode().splitlines() ==
+          [line for line in in_force.stderr.decode().splitlines() if line.startswith("refused-")],
+          "settle --text-2015 --explain --strict: all examples", words_of(done))
+    for name in ("producer.sheet", "producer.toml"):
+        done = house.settle("--strict", "--text-2015", f"examples/{name}")
+        check((done.returncode, done.stdout, done.stderr) == (0, b"", b""), f"settle --text-2015 {name}",
+              words_of(done))
+    for form, start in (("--table", b"examples/old-act.toml: November 2019, under the text of 2015\n\nconsumer  "),
+                        ("--csv", b"month,text,record,consumer,"),
+                        ("--json", b'[\n {\n  "month": "examples/old-act.toml",\n  "text": "2015",\n')):
+        done = house.settle("--text-2015", form, "examples/old-act.toml")
+        check(done.returncode == 0 and done.stdout.startswith(start) and not done.stderr, f"settle --text-2015 {form}",
+              words_of(done))
+    for more in ([], ["--force"]):
+        done = house.settle("--text-2015", "--result", "-r.bin", *more, "examples/old-act.sheet")
+        check(done.returncode == 0 and (house.root / "-r.bin").stat().st_size == 4 + 17 * 6,
+              f"settle --text-2015 --result {more}", words_of(done))
+
+
+def check_changes_2015(house):
+    """Lists and records before the text of 2015: bytes and texts; a refused one; the changed sheet."""
+    (house.root / "target/bin/settle").unlink()
+    before = house.checks()
+    for kind in CHANGES:
+        after = EXAMPLES / f"{kind.after}.sheet"
+        for given in kind.files():
+            done = house.settle("--text-2015", kind.option, given, MONTH)
+            check(done.returncode == 0 and done.stdout == by_rival(after), f"settle --text-2015 {kind.option}: "
+                  f"{given.name}", words_of(done))
+        number = kind.refused[0]
+        done = house.settle("--strict", kind.option, kind.files(f"refused-{number}")[1], "--text-2015", MONTH)
+        check((done.returncode, done.stdout) == (1, b"N%d\n" % number), f"settle --text-2015 {kind.option}: refused",
+              words_of(done))
+        done = house.settle("--text-2015", "--sheet", "new", "--force", kind.option, kind.files()[1], MONTH)
+        check((house.root / "new").read_bytes() == after.read_bytes(), f"settle --text-2015 --sheet {kind.option}",
+              words_of(done))
+    check(house.checks() == before, "settle --text-2015 with changes: settle is not built")
+
+
+def check_wrong_use_2015(house):
+    for words, said in ((["--text-2015=x"], "there is no option --text-2015=x"),
+                        (["--text"], "there is no option --text; ./settle --help has the use"),
+                        (["--text-2015", "--table", "--csv"], "--table and --csv are two forms"),
+                        (["--text-2015", "--force"], "--force goes with --result or --sheet"),
+                        (["--text-2015", "--sheet", "x", MONTH], "--sheet goes with --transfers or --complex"),
+                        (["--text-2015", "--result", "x", MONTH, MONTH], "--result takes the result of one month"),
+                        (["--text-2015", "--transfers", LISTS.files()[1], MONTH, MONTH], "--transfers goes with one"),
+                        (["--text-2015", "--result", "-r.bin", MONTH], "-r.bin: exists; --force writes over it"),
+                        (["--text-2015", LISTS.files()[1]], f"{LISTS.files()[1]}: {NOT_A_MONTH}"),
+                        (["--text-2015", "none.sheet"], "cannot read none.sheet")):
+        house.fails(f"wrong use: {words}", f"settle: {said}", words)
+    (house.bin / "python3").unlink()
+    for name in ("old-act", "producer", "refused-9"):
+        done = house.settle("--text-2015", f"examples/{name}.sheet")
+        check(done.stdout == by_rival(EXAMPLES / f"{name}.sheet") and not done.stderr,
+              f"settle --text-2015: {name} needs no Python", words_of(done))
+    house.fails("--text-2015: no Python", "need python3, which is not on the PATH", ["--text-2015", "--csv", MONTH])
+
+
+def check_other_output_2015(house):
+    """What is no listing of this sheet; nothing at all is one where the sheet has no consumer."""
+    program = house.root / "target/bin/settle_2015"
+    lines = (EXAMPLES / "old-act-2015.listing").read_text().splitlines(keepends=True)
+    for name, said in (
+        *(("old-act", said) for said in (
+            "", "N", "N123", "".join(lines[:-1]), "".join(lines)[:-3], "C5 1.5 0.0 0.0", "C5 1.5 0.00",
+            "".join(lines) + "T 0.00 0.00", "".join(lines) + "C6 1.0 1.0 1.00", LISTINGS["old-act"].decode())),
+        ("producer", "N"), ("producer", "C0 1.0 1.0 1.00"), ("producer", "T 0.00 0.00"), ("refused-1", "")
+    ):
+        program.write_text(f"#!/bin/sh\ncat >/dev/null\nprintf '{said}'\n")
+        done = house.settle("--text-2015", f"examples/{name}.sheet")
+        check(done.returncode == 2 and not done.stdout and done.stderr.decode() ==
+              f"settle: the program failed on examples/{name}.sheet: what it printed is no listing\n",
+              f"settle --text-2015: {name}: a program that prints {said[-20:]!r}", words_of(done))
+    program.write_text("#!/bin/sh\nexit 1\n")
+    done = house.settle("--text-2015", "examples/producer.sheet")
+    check(done.returncode == 2 and done.stderr == b"settle: the program failed on examples/producer.sheet\n",
+          "settle --text-2015: a failure", words_of(done))
 
 
 def test_version(folder):

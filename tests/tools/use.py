@@ -163,7 +163,8 @@ def test_wrong_use(folder):
                  "pack - new", "unpack", "unpack in.sheet -", "unpack in.sheet --force", "show", "show a b",
                  "show --transfers - a", "show --complex - a", "explain --complex a", "check a --complex",
                  "result a.bin --complex a.complex", "calendar --complex a b", "calendar a b",
-                 "calendar --transfers a b", "explain", "explain a b", "explain --transfers a", "result", "result a.bin --sheet", "result a.bin b.bin",
+                 "calendar --transfers a b", "explain", "explain a b", "explain --transfers a", "explain --text-2015 a",
+                 "check --text-2015 a", "result", "result a.bin --sheet", "result a.bin b.bin", "result --text-2015",
                  "result a.bin --transfers a.list", "check", "check a b", "check a --transfers", "new", "new 2021",
                  "new 2021-12 - x", "new 2021-12 --rows", "new 2021-12 --rows -1", "new 1-1 --rows 1.0"):
         turned_down(f"wrong use: {line}", folder, line.split(), "usage: tools/sheet", status=2)

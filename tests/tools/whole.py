@@ -142,7 +142,8 @@ def test_kinds_of_files(folder):
     for line, where in ((f"'{SHEET}' pack month.toml /dev/stdout --force | cat >out", "a pipe"),
                         (f"'{SHEET}' pack month.toml /dev/stdout --force >out", "a file")):
         done = subprocess.run(line, shell=True, cwd=folder, capture_output=True)
-        check((folder / "out").read_bytes() == wanted and not done.stderr, f"pack: /dev/stdout, {where}", words_of(done))
+        check((folder / "out").read_bytes() == wanted and not done.stderr, f"pack: /dev/stdout, {where}",
+              words_of(done))
     long = "x" * 250
     done = sheet("pack", "month.toml", long, folder=folder)
     check((folder / long).read_bytes() == wanted, "pack: a long name", words_of(done))
