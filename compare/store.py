@@ -115,7 +115,7 @@ def draw_stored(draw_case, seed, length, group, corner):
 
 def stored_cases(group):
     times, length = PLAN[group]
-    cases = [draw_stored(sheets.draw_case, f"{SEED}/{group}/{corner}/{number}", length, group, corner)
+    cases = [draw_stored(sheets.KINDS.draw_case, f"{SEED}/{group}/{corner}/{number}", length, group, corner)
              for number in range(times) for corner in corners_stored(group)]
     return [case for case in cases if len(case.sheet) <= LONGEST_SHEET]
 
@@ -157,7 +157,7 @@ def answered_sheets(group, folder):
     """The stored cases of a group, each in bytes."""
     cases = stored_cases(group)
     answers = programs.rival_answers(cases, folder)
-    check_intended(cases, answers, sheets.intended_refusal)
+    check_intended(cases, answers, sheets.KINDS.intended_refusal)
     if group == "checked_months":
         programs.check_paper(cases, answers)
     return list(map(stored_bytes, cases, answers))
