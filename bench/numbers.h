@@ -1,4 +1,4 @@
-/* What transfer.c, average.c and settle_2015.c share: the numbers of a sheet whose powers are only held to the ceiling. */
+/* What transfer.c, average.c and settle_2015.c share: the numbers of a sheet whose powers are only tried. */
 #ifndef BENCH_NUMBERS_H
 #define BENCH_NUMBERS_H
 

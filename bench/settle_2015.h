@@ -5,7 +5,7 @@
 #include <stddef.h>
 #include <stdint.h>
 
-/* The same call as capacity_settle_2015 of include/capacity.h: the count of bytes written, or minus a refusal's number. */
+/* The same call as capacity_settle_2015 of include/capacity.h: the bytes written, or minus a refusal's number. */
 int64_t c_settle_2015(const uint8_t *sheet, size_t sheet_length, uint8_t *result, size_t result_length);
 
 #endif

@@ -10,8 +10,8 @@ SIDES = ("last", "next", "exact", "exact_next", "half")
 
 
 def excess_at(rng, edge, side, whole=1000, most=60_000):
-    """A reference, which is at most this, and an excess over it that is an edge or one above it, in so many parts of the
-    reference to a whole, rounded."""
+    """A reference, at most this, and an excess over it that is an edge or one above it, rounded, in so many parts of
+    the reference to a whole."""
     if side in ("last", "next"):
         reference = rng.randrange(2 * whole, most + 1)
         excess = ((2 * edge + 1) * reference - 1) // (2 * whole)

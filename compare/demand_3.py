@@ -8,7 +8,7 @@ from running import CHUNK
 
 class Rule(NamedTuple):
     name: str
-    figures: object    # of a sheet and its result: what is no larger in the second, and what no smaller, each with a name
+    figures: object    # of a sheet and its result: what is no larger in the second, what no smaller, each with a name
 
 
 def figures_compared(sheet, result):

@@ -1,7 +1,7 @@
 """Both programs over the same cases: they must agree, and a difference is told with all that is needed to repeat it.
 
-A SheetRun settles sheets, a Run2015 settles them under the text of 2015, a ListRun applies lists of transfers to sheets,
-a RecordRun writes complexes' peaks into them. What must hold of each answer by itself is checked here too.
+A SheetRun settles sheets, a Run2015 settles them under the text of 2015, a ListRun applies lists of transfers to
+sheets, a RecordRun writes complexes' peaks into them. What must hold of each answer by itself is checked here too.
 """
 import re
 from pathlib import Path

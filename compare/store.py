@@ -5,7 +5,8 @@
 
 OUTDIR/GROUP holds cases one after another: sheet length (4 bytes, highest first), result buffer length (4),
 kind of answer (1: 0 result, 1 refusal), byte count or refusal number (4), the sheet, for kind 0 the result.
-OUTDIR/text_2015_NAME holds sheets under the text of 2015 in the same way. OUTDIR/transfers holds sheets with lists of transfers: sheet length (4), list length (4), kind of answer (1: 0 done,
+OUTDIR/text_2015_NAME holds sheets under the text of 2015 in the same way.
+OUTDIR/transfers holds sheets with lists of transfers: sheet length (4), list length (4), kind of answer (1: 0 done,
 1 refusal), byte count 0 or refusal number (4), the sheet, the list, and the sheet afterwards, which after a refusal is
 the sheet again. OUTDIR/averages holds sheets with a complex's record in the same way. FILE gets a line for each file of
 sheets to be settled, its name and its count of cases, in a fixed order.

@@ -1,7 +1,7 @@
 /*
- * Settles the example sheet, under the text of 2015 too, applies the example list, and takes the example complex's peak,
- * in a program that has no C library. The archive needs memcpy and memset, which stand here. The status is 0 if answers, result and sheets are
- * right. Linux on x86-64.
+ * Settles the example sheet, also under the text of 2015, applies the example list, and takes the example complex's
+ * peak, in a program that has no C library. The archive needs memcpy and memset, which stand here. The status is 0 if
+ * answers, results and sheets are right. Linux on x86-64.
  */
 #include "capacity.h"
 #include "example.h"

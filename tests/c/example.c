@@ -1,6 +1,7 @@
 /*
- * Settles document 01's example sheet through the C entries, under the text of 2015 too, applies a list of transfers to
- * another, and writes a complex's peak into that. Every byte of a buffer that a call may write to is checked afterwards.
+ * Settles document 01's example sheet through the C entries, also under the text of 2015, applies a list of transfers
+ * to another, and writes a complex's peak into that. Every byte of a buffer that a call may write to is checked
+ * afterwards.
  */
 #include <stdio.h>
 #include <string.h>
