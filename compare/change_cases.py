@@ -5,7 +5,7 @@ A case is a kind, a sheet's bytes and the bytes of what it is changed by.
 from typing import NamedTuple
 
 import programs
-from kinds import Kinds, in_bytes
+from case_kinds import Kinds, in_bytes
 
 
 class ChangeCase(NamedTuple):

@@ -5,9 +5,9 @@ from typing import NamedTuple
 import sheets
 from accepted import credit_sheet
 from applied_lists import APPLIED, LONG, sheet_of, some_entries, some_sheet, volumes_of
+from case_kinds import in_bytes
 from change_cases import ChangeKinds
 from drawing import capacity
-from kinds import in_bytes
 from refusals import TRIED_IN_LIST
 from refused_lists import DAMAGED, FAULTS, LIST_13, LIST_14, LIST_15, REFUSED_SHEETS, SEVERAL_RULES
 

@@ -3,7 +3,7 @@
 
   compare/sheets.py SEED COUNT FILE    writes the first COUNT cases of a seed to FILE and lists their kinds
 
-A case is a kind (kinds.py), a sheet's bytes and the length of the result buffer.
+A case is a kind (case_kinds.py), a sheet's bytes and the length of the result buffer.
 """
 import random
 import sys
@@ -19,7 +19,7 @@ import powers
 import programs
 import refused
 import ties
-from kinds import Kinds, in_bytes
+from case_kinds import Kinds, in_bytes
 from records import HEADER, MOST_CONSUMERS, MOST_ROWS, TOP_CAPACITY, TOP_Z
 from refusals import BUFFER_NUMBER, FORM, TRIED
 from refused import SETTLEMENT_ROOM
