@@ -5,7 +5,7 @@
  * once, for number 17; those of the control hours are read a second time.
  */
 #include "average.h"
-#include "change.h"
+#include "numbers.h"
 
 enum { FRONT = 9, HOUR_OF_RECORD = 8, DAY_OF_RECORD = 24 * HOUR_OF_RECORD, FIRST_CONTROL_HOUR = 17, CONTROL_HOURS = 6 };
 

@@ -1,4 +1,4 @@
-/* What settle.c, transfer.c and average.c share: the sheet's bytes, its header, numbers that all try in one way. */
+/* What the settlement and the requests in C share: the sheet's bytes, its header, numbers that all try in one way. */
 #ifndef BENCH_SHEET_H
 #define BENCH_SHEET_H
 
@@ -10,7 +10,6 @@
 enum {
     HEADER = 14, PRODUCER = 42, HOUR = 12, DAY = 24 * HOUR, ROW = 10, CONSUMER = 15,
     MOST_PRODUCERS = 6, MOST_ROWS = 32, MOST_CONSUMERS = 32,
-    FRAME = 21, ROW_RESULT = 16, CONSUMER_RESULT = 25,
     TOP_CAPACITY = 100000, TOP_PRICE = 200000000, ONE = 1000000,
     SINGLE_BUYER = 255, LOWEST_Z = 10, TOP_Z = 100
 };
@@ -71,14 +70,13 @@ struct header {
     const uint8_t *row;
     const uint8_t *consumer;
     size_t producer_width;
-    size_t result;              /* the result's length */
 };
 
 /* Mondays to Fridays of a month that begins on a Monday. */
 #define WEEKDAYS (UINT64_C(0x1F) * (1 | 1 << 7 | 1 << 14 | 1 << 21 | UINT64_C(1) << 28 | UINT64_C(1) << 35))
 
-/* Numbers 1 to 7; 0 where none applies, and then the header is filled. */
-static inline int read_header(struct header *h, const uint8_t *sheet, size_t length, size_t room)
+/* Numbers 1 to 6; 0 where none applies, and then the header is filled. */
+static inline int read_header(struct header *h, const uint8_t *sheet, size_t length)
 {
     if (length < HEADER)
         return 1;
@@ -97,9 +95,6 @@ static inline int read_header(struct header *h, const uint8_t *sheet, size_t len
     size_t rows_at = HEADER + producers * h->producer_width, consumers_at = rows_at + ROW * rows;
     if (length != consumers_at + CONSUMER * consumers)
         return 6;
-    h->result = FRAME + ROW_RESULT * rows + CONSUMER_RESULT * consumers;
-    if (room < h->result)
-        return 7;
     h->row = sheet + rows_at;
     h->consumer = sheet + consumers_at;
     h->days = days;

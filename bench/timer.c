@@ -1,10 +1,11 @@
 /*
  * Settles one sheet again and again, and prints the nanoseconds of a call, the answer, and a sum over the result.
  *
- *   timer module|c|sum|none CALLS SHEET [quiet]
+ *   timer module|c|module_2015|c_2015|sum|none CALLS SHEET [quiet]
  *
- * module: the proved archive. c: bench/settle.c. sum: no settlement; the sheet's bytes are added up, eight at a time.
- * none: the loop with the call left out. quiet: nothing is printed, so that instructions can be counted.
+ * module: the proved archive. c: bench/settle.c. module_2015, c_2015: the same under the text of 2015. sum: no
+ * settlement; the sheet's bytes are added up, eight at a time. none: the loop with the call left out. quiet: nothing is
+ * printed, so that instructions can be counted.
  */
 #include "clock.h"
 
@@ -15,6 +16,7 @@
 
 #include "capacity.h"
 #include "settle.h"
+#include "settle_2015.h"
 
 typedef int64_t settlement(const uint8_t *, size_t, uint8_t *, size_t);
 
@@ -35,6 +37,15 @@ static int64_t sum_of(const uint8_t *bytes, size_t length, uint8_t *out, size_t 
     return (int64_t)sum;
 }
 
+static const struct {
+    const char *name;
+    settlement *call;
+} programs[] = {
+    {"module", capacity_settle},           {"c", c_settle},
+    {"module_2015", capacity_settle_2015}, {"c_2015", c_settle_2015},
+    {"sum", sum_of},
+};
+
 /* The nanoseconds of a call. The settlement is known only when the program runs, so no call is left out or moved. */
 static double timed(settlement *volatile settle, unsigned long calls, size_t length, int64_t *answer)
 {
@@ -50,16 +61,13 @@ static double timed(settlement *volatile settle, unsigned long calls, size_t len
 int main(int count, char **words)
 {
     if (count != 4 && count != 5) {
-        fputs("usage: timer module|c|sum|none CALLS SHEET [quiet]\n", stderr);
+        fputs("usage: timer module|c|module_2015|c_2015|sum|none CALLS SHEET [quiet]\n", stderr);
         return 2;
     }
     settlement *settle = NULL;
-    if (strcmp(words[1], "module") == 0)
-        settle = capacity_settle;
-    else if (strcmp(words[1], "c") == 0)
-        settle = c_settle;
-    else if (strcmp(words[1], "sum") == 0)
-        settle = sum_of;
+    for (size_t i = 0; i < sizeof programs / sizeof programs[0]; i++)
+        if (strcmp(words[1], programs[i].name) == 0)
+            settle = programs[i].call;
     unsigned long calls = strtoul(words[2], NULL, 10);
     FILE *in = fopen(words[3], "rb");
     if (in == NULL || calls == 0) {

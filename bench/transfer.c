@@ -5,7 +5,7 @@
  * sheet itself, all in one pass; where one cannot be applied, those before it are taken back.
  */
 #include "transfer.h"
-#include "change.h"
+#include "numbers.h"
 
 enum { FRONT = 5, ENTRY = 7, LAST_DAY_TO_FILE = 20, LAST_DAY = 31 };
 

@@ -9,16 +9,17 @@ EDGES = (50, 200, 400, 500)
 SIDES = ("last", "next", "exact", "exact_next", "half")
 
 
-def excess_at(rng, edge, side):
-    """A deductible and an excess over it with p at an edge or one above."""
+def excess_at(rng, edge, side, whole=1000, most=60_000):
+    """A reference, at most this, and an excess over it that is an edge or one above it, rounded, in so many parts of
+    the reference to a whole."""
     if side in ("last", "next"):
-        deductible = rng.randrange(2000, 60_001)
-        excess = ((2 * edge + 1) * deductible - 1) // 2000
-        return deductible, excess + (side == "next")
-    times = rng.randrange(1, 31)
+        reference = rng.randrange(2 * whole, most + 1)
+        excess = ((2 * edge + 1) * reference - 1) // (2 * whole)
+        return reference, excess + (side == "next")
+    times = rng.randrange(1, most // (2 * whole) + 1)
     if side == "half":
-        return 2000 * times, (2 * edge + 1) * times
-    return 1000 * times, (edge + (side == "exact_next")) * times
+        return 2 * whole * times, (2 * edge + 1) * times
+    return whole * times, (edge + (side == "exact_next")) * times
 
 
 def k1_sheet(rng, deductible, average, support):
@@ -137,20 +138,26 @@ PEAKS.update((corner.__name__, corner) for corner in (
     no_contract_no_peak, no_contract_but_peak, no_excess, smallest_excess, small_contract))
 
 
+def consumers_at(rng, corner, peaks):
+    """A sheet of consumers at corners of these bands, the first at this one; some have mining days and z."""
+    month = draw_month(rng)
+    count = MOST_CONSUMERS if rng.random() < 0.05 else rng.randrange(1, 6)
+    corners = [corner] + [rng.choice(list(peaks.values())) for _ in range(count - 1)]
+    sheet = Sheet(month, [], [], [plain_consumer(rng, *draw_peak(rng)) for draw_peak in corners])
+    for consumer in sheet.consumers:
+        if rng.random() < 0.3:
+            consumer.supplier_days = draw_mining_days(rng, month)
+            consumer.grid_days = draw_mining_days(rng, month)
+            consumer.z = rng.randrange(LOWEST_Z, TOP_Z + 1)
+    return sheet
+
+
 def consumers_sheet(corner):
     """Consumers at corners of the bands, the first at this one. One sheet in four has a credit to each."""
     def draw(rng):
-        month = draw_month(rng)
-        count = MOST_CONSUMERS if rng.random() < 0.05 else rng.randrange(1, 6)
-        corners = [corner] + [rng.choice(list(PEAKS.values())) for _ in range(count - 1)]
-        sheet = Sheet(month, [], [], [plain_consumer(rng, *draw_peak(rng)) for draw_peak in corners])
-        for consumer in sheet.consumers:
-            if rng.random() < 0.3:
-                consumer.supplier_days = draw_mining_days(rng, month)
-                consumer.grid_days = draw_mining_days(rng, month)
-                consumer.z = rng.randrange(LOWEST_Z, TOP_Z + 1)
+        sheet = consumers_at(rng, corner, PEAKS)
         if rng.random() < 0.25:
-            sheet.producers = [full_producer(month)]
+            sheet.producers = [full_producer(sheet.month)]
             for number, consumer in enumerate(sheet.consumers):
                 credit = rng.randrange(min(TOP_CAPACITY - consumer.peak, 3000) + 1)
                 consumer.peak += credit

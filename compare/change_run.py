@@ -30,13 +30,5 @@ def compare_cases(run, settling, count, marks, told):
         coverage.add(cases, marked)
         done += settle_done(settling, 2 * done, kinds.given, cases, answers)
     print(f"{kinds.given}s: {done} of {count} {told}, the sheet accepted in the same room")
-    print_coverage(coverage, kinds.given)
+    coverage.print_all(f"{kinds.given}s", ("sheet_", f"{kinds.given}_"))
     return coverage.failure(count, f"{kinds.given}s")
-
-
-def print_coverage(coverage, given):
-    print(f"coverage, in {given}s:")
-    coverage.print_marks()
-    coverage.print_kinds("causes of refusals", ("sheet_", f"{given}_"))
-    coverage.print_kinds("two numbers at once", "several_rules/")
-    coverage.print_kinds("all kinds")

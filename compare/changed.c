@@ -19,14 +19,15 @@
 
 /* An entry, with the first and the last of the numbers that only it answers. */
 struct entry {
-    const char *name, *given;
+    const char *given;
     int64_t (*call)(uint8_t *, size_t, const uint8_t *, size_t);
     int64_t first, last;
 };
 
-static const struct entry entries[] = {
-    {"transfer", "list", capacity_transfer, CAPACITY_BAD_LIST, CAPACITY_OVERDRAWN},
-    {"average", "record", capacity_average, CAPACITY_BAD_RECORD, CAPACITY_HIGH_POWER},
+static const char *const names[2] = {"transfer", "average"};
+static const struct entry entries[2] = {
+    {"list", capacity_transfer, CAPACITY_BAD_LIST, CAPACITY_OVERDRAWN},
+    {"record", capacity_average, CAPACITY_BAD_RECORD, CAPACITY_HIGH_POWER},
 };
 
 static const struct entry *entry;
@@ -73,12 +74,8 @@ static void change_case(FILE *in, FILE *out, const uint8_t lengths[8])
 
 int main(int count, char **words)
 {
-    for (size_t i = 0; count > 1 && i < sizeof entries / sizeof entries[0]; i++)
-        if (strcmp(words[1], entries[i].name) == 0)
-            entry = &entries[i];
-    if (entry == NULL)
-        stop(TROUBLE, "usage: %s transfer|average IN OUT [FIRST]", words[0]);
+    entry = &entries[entry_named(count, words, names)];
     sheet = make_room("sheet");
     given = make_room(entry->given);
-    return answer_file(count - 1, words + 1, change_case);
+    return answer_file(count, words, change_case);
 }

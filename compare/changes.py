@@ -7,7 +7,7 @@ from slips import SLIPS
 
 DEFINITIONS = ("Range", "Units", "Month", "ControlHours", "Bands", "Cut", "Coefficients", "Rows", "Consumers", "Totals",
                "Fields", "Sheet", "Result", "Refusals", "Outcome", "TransferList", "Transfers", "ControlTable",
-               "ComplexRecord", "Averaging")
+               "ComplexRecord", "Averaging", "Text2015", "Result2015", "Outcome2015")
 
 
 class Mutant(NamedTuple):
@@ -47,6 +47,7 @@ FIELD_KINDS = (
     ("edge", "factor"),
     ("afterCut", "actual", "payment"),
     ("credit", "percent", "band", "volume", "charge"),
+    ("factor", "volume", "charge"),
     ("paid", "charged"),
     ("width", "figure"),
     ("place", "bytes"),
@@ -77,6 +78,17 @@ NAME_KINDS = (
     ("recordLength", "complex", "imported"),
     ("drawnSeries", "sentSeries"),
     ("drawn", "sent", "net"),
+    ("excessOf", "factorFor", "volumeFor"),
+    ("factor2015", "volume2015", "charge2015"),
+    ("bands", "bands2015"),
+    ("band", "factor2015"),
+    ("volume", "volume2015"),
+    ("charge", "charge2015"),
+    ("resultLength", "length2015"),
+    ("consumerRecord", "record2015"),
+    ("resultOf", "result2015"),
+    ("refusal", "refusal2015"),
+    ("tests", "tests2015"),
     ("true", "false"),
 )
 

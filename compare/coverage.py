@@ -30,6 +30,14 @@ class Coverage:
         drawn = [self.kinds[kind] for kind in self.all_kinds if kind.startswith(start)]
         print(f"  {title:24} {sum(1 for count in drawn if count)} of {len(drawn)}, the rarest {min(drawn)} times")
 
+    def print_all(self, what, causes):
+        """causes: how the groups begin of which each corner is the cause of a refusal."""
+        print(f"coverage, in {what}:")
+        self.print_marks()
+        self.print_kinds("causes of refusals", causes)
+        self.print_kinds("two numbers at once", "several_rules/")
+        self.print_kinds("all kinds")
+
     def never_reached(self):
         missed = [mark for marks in self.titles.values() for mark in marks if self.marks[mark] == 0]
         return missed + [kind for kind in self.all_kinds if self.kinds[kind] == 0]

@@ -1,5 +1,14 @@
-"""Demand 3 of two results, the second of a sheet that is worse in some places."""
+"""Demand 3 of two results, the second of a sheet that is worse in some places, and rules of that form."""
+from typing import NamedTuple
+
+import sheets
 from records import result_figures
+from running import CHUNK
+
+
+class Rule(NamedTuple):
+    name: str
+    figures: object    # of a sheet and its result: what is no larger in the second, what no smaller, each with a name
 
 
 def figures_compared(sheet, result):
@@ -16,8 +25,11 @@ def figures_compared(sheet, result):
     return not_larger, not_smaller
 
 
-def against_demand_3(first, second):
-    """What of the compared figures goes against demand 3, or nothing."""
+DEMAND_3 = Rule("demand 3", figures_compared)
+
+
+def against_rule(first, second):
+    """What of the compared figures goes against the rule, or nothing."""
     for name, figure in first[0].items():
         if second[0][name] > figure:
             return f"{name} is {figure} in the first result and {second[0][name]}, which is larger, in the second"
@@ -27,22 +39,35 @@ def against_demand_3(first, second):
     return ""
 
 
-def check_pairs(run, start, cases, answers):
-    """Demand 3 of cases that follow each other by two, with results on which both programs agree.
+def check_pairs(run, start, cases, answers, rule=DEMAND_3):
+    """A rule of cases that follow each other by two, with results on which both programs agree.
 
     Gives how many pairs had a figure that moved.
     """
     moved = 0
     for place in range(0, len(cases), 2):
-        first, second = (figures_compared(cases[number].sheet, answers[number]) for number in (place, place + 1))
+        first, second = (rule.figures(cases[number].sheet, answers[number]) for number in (place, place + 1))
         moved += first != second
-        wrong = against_demand_3(first, second)
+        wrong = against_rule(first, second)
         if wrong:
-            raise run.report_pair(start + place, *cases[place:place + 2], f"demand 3: {wrong}")
+            raise run.report_pair(start + place, *cases[place:place + 2], f"{rule.name}: {wrong}")
     return moved
 
 
-def moved_in(moved, count, what):
+def compare_pairs(run, draw_pairs, count, rule=DEMAND_3):
+    """Settles pairs of sheets by both programs and checks a rule. Gives how many pairs had a figure that moved."""
+    moved = 0
+    for start in range(0, count, CHUNK):
+        pairs = draw_pairs(run.seed, min(CHUNK, count - start), start)
+        cases = [sheets.Case(pair.kind, sheet, sheets.LONGEST_BUFFER)
+                 for pair in pairs for sheet in (pair.first, pair.second)]
+        # Both programs gave these answers, byte by byte, so the rule is checked of each by one look.
+        answers, _ = run.answers(2 * start, cases)
+        moved += check_pairs(run, 2 * start, cases, answers, rule)
+    return moved
+
+
+def moved_in(moved, count, what, rule=DEMAND_3):
     """Says in how many pairs a figure moved; gives the words of a failure if they are too few, or none."""
-    print(f"demand 3: {count} {what}, {moved} with a figure that moved, none against it")
+    print(f"{rule.name}: {count} {what}, {moved} with a figure that moved, none against it")
     return f"in less than half of the {what} a figure moved" if 2 * moved < count else ""

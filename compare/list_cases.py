@@ -5,7 +5,8 @@ from typing import NamedTuple
 import sheets
 from accepted import credit_sheet
 from applied_lists import APPLIED, LONG, sheet_of, some_entries, some_sheet, volumes_of
-from change_cases import Kinds, in_bytes
+from case_kinds import in_bytes
+from change_cases import ChangeKinds
 from drawing import capacity
 from refusals import TRIED_IN_LIST
 from refused_lists import DAMAGED, FAULTS, LIST_13, LIST_14, LIST_15, REFUSED_SHEETS, SEVERAL_RULES
@@ -24,7 +25,7 @@ class ListPair(NamedTuple):
 GROUPS = {"applied": APPLIED, "long": LONG, "list_13": LIST_13, "list_14": LIST_14, "list_15": LIST_15,
           "several_rules": SEVERAL_RULES, "damaged": DAMAGED}
 SHARES = {"applied": 47, "long": 3, "list_13": 14, "list_14": 5, "list_15": 11, "several_rules": 5, "damaged": 4}
-KINDS = Kinds("list", GROUPS, REFUSED_SHEETS, SHARES, done=("applied", "long"))
+KINDS = ChangeKinds("list", GROUPS, REFUSED_SHEETS, SHARES, done=("applied", "long"))
 
 # ------------------------------------------------------------------ pairs of demand 3 with a list
 

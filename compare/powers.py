@@ -26,7 +26,7 @@ def high_powers(rng, month):
 
 def some_high_powers(rng, month):
     powers = low_powers(rng, month)
-    for hour in rng.sample(range(len(powers)), rng.choice((1, 5, 100))):
+    for hour in rng.sample(range(len(powers)), min(rng.choice((1, 5, 100)), len(powers))):
         powers[hour] = rng.randrange(TWO_BYTES + 1, TOP_CAPACITY + 1)
     return powers
 

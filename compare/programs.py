@@ -140,14 +140,24 @@ def stored_lists(content):
         place += length
 
 
-def rival_answers(cases, folder, command="batch"):
-    """The rival's answers to cases, with files in a folder."""
+def rival_file(cases, folder, command):
+    """The file that a command of the rival writes about cases, in a folder."""
     asked, answered = Path(folder) / "cases", Path(folder) / "rival"
     write_cases(asked, cases)
     status, printed = run_program([RIVAL, command, asked, answered])
     if status != 0:
         raise Trouble(f"the rival ended with status {status}\n{printed}")
-    return read_answers(answered, len(cases))
+    return answered
+
+
+def rival_answers(cases, folder, command="batch"):
+    """The rival's answers to cases, with files in a folder."""
+    return read_answers(rival_file(cases, folder, command), len(cases))
+
+
+def rival_marks(cases, folder, command):
+    """All marks that the rival gives these cases."""
+    return set(rival_file(cases, folder, command).read_text().split())
 
 
 def check_paper(cases, answers):

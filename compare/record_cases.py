@@ -7,7 +7,7 @@ from copy import deepcopy
 from typing import NamedTuple
 
 from accepted import credit_sheet
-from change_cases import Kinds
+from change_cases import ChangeKinds
 from complex_records import peak_of
 from drawing import capacity, spread
 from refused_records import DAMAGED, RECORD_16, RECORD_17, REFUSED_SHEETS, SEVERAL_RULES
@@ -19,7 +19,7 @@ from taken_records import LONG, MONTHS, TAKEN, behind_producers, plain_record, r
 GROUPS = {"taken": TAKEN, "months": MONTHS, "long": LONG, "record_16": RECORD_16, "record_17": RECORD_17,
           "several_rules": SEVERAL_RULES, "damaged": DAMAGED}
 SHARES = {"taken": 38, "months": 10, "long": 2, "record_16": 14, "record_17": 12, "several_rules": 8, "damaged": 5}
-KINDS = Kinds("record", GROUPS, REFUSED_SHEETS, SHARES, done=("taken", "months", "long"))
+KINDS = ChangeKinds("record", GROUPS, REFUSED_SHEETS, SHARES, done=("taken", "months", "long"))
 
 # ------------------------------------------------------------------ pairs
 

@@ -5,6 +5,7 @@ A cause changes an accepted Sheet so that it breaks one rule and none that is tr
 """
 from dataclasses import dataclass
 from itertools import combinations
+from typing import NamedTuple
 
 from accepted import ordinary_month
 from drawing import draw_consumer, draw_sheet
@@ -275,7 +276,15 @@ for cause in (*causes_of_length(), *causes_of_month_and_counts(), *causes_of_fig
 
 # Numbers 1 and 7 do not change the sheet's records: how many bytes are left, and the result buffer's length.
 SHORT_SHEETS = {"no_bytes": 0, "one_byte": 1, "thirteen_bytes": 13, "some_bytes": None}
-SHORT_BUFFERS = ("none", "one_byte", "shorter_by_one", "twenty", "shorter")
+
+
+class Room(NamedTuple):
+    """The room that an entry needs for its result."""
+    needed: object    # in bytes, from the counts of rows and consumers
+    short: tuple      # forms of a result buffer that is too short whatever the counts are
+
+
+SETTLEMENT_ROOM = Room(result_length, ("none", "one_byte", "shorter_by_one", "twenty", "shorter"))
 
 # ------------------------------------------------------------------ one cause
 
@@ -313,7 +322,8 @@ def short_sheet(count):
 
 
 def short_buffer(rng, form, needed):
-    lengths = {"none": 0, "one_byte": 1, "twenty": 20, "shorter_by_one": needed - 1, "shorter": rng.randrange(needed)}
+    lengths = {"none": 0, "one_byte": 1, "three": 3, "twenty": 20, "shorter_by_one": needed - 1,
+               "shorter": rng.randrange(needed)}
     return lengths[form]
 
 
@@ -323,7 +333,13 @@ def accepted_sheet(rng):
 
 REFUSALS = {number: {cause.name: refused_sheet(cause) for cause in CAUSES[number]} for number in CAUSES}
 REFUSALS[1] = {name: short_sheet(count) for name, count in SHORT_SHEETS.items()}
-REFUSALS[BUFFER_NUMBER] = {form: accepted_sheet for form in SHORT_BUFFERS}
+
+
+def refusal_groups(room):
+    """The causes of each number, of an entry that needs this room."""
+    found = {**REFUSALS, BUFFER_NUMBER: {form: accepted_sheet for form in room.short}}
+    return {f"refusal_{number}": corners for number, corners in found.items()}
+
 
 # ------------------------------------------------------------------ several rules at once
 
@@ -340,7 +356,7 @@ def causes_to_join(rng, numbers):
             return causes
 
 
-def break_rules(rng, first, later):
+def break_rules(rng, first, later, room):
     """Breaks two rules, now and then more that are tried later. Gives the sheet's bytes and the buffer's length.
 
     As a rule the number tried first is broken in the last record and the others in the first, so that a program that
@@ -360,18 +376,20 @@ def break_rules(rng, first, later):
     content = sheet.to_bytes()
     if first == 1:
         content = content[:rng.randrange(HEADER)]
-    buffer = result_length(len(sheet.rows), len(sheet.consumers))
+    buffer = room.needed(len(sheet.rows), len(sheet.consumers))
     if BUFFER_NUMBER in numbers:
-        buffer = short_buffer(rng, rng.choice(SHORT_BUFFERS), buffer)
+        buffer = short_buffer(rng, rng.choice(room.short), buffer)
     return content, buffer
 
 
-def rules_broken(first, later):
-    return lambda rng: break_rules(rng, first, later)
+def rules_broken(first, later, room):
+    return lambda rng: break_rules(rng, first, later, room)
 
 
-# Every two numbers, the one that is tried first in front: "3_and_9".
-SEVERAL_RULES = {f"{first}_and_{later}": rules_broken(first, later) for first, later in combinations(TRIED, 2)}
+def several_rules(room):
+    """Every two numbers, the one that is tried first in front: "3_and_9"."""
+    return {f"{first}_and_{later}": rules_broken(first, later, room) for first, later in combinations(TRIED, 2)}
+
 
 # ------------------------------------------------------------------ damaged sheets
 

@@ -5,7 +5,7 @@
  * A buffer ends where a page without access begins, and the page before its first one has no access either. The bytes
  * before it in its first page are filled with a pattern: a call may not change them.
  *
- *   PROGRAM IN OUT [FIRST]
+ *   PROGRAM ENTRY IN OUT [FIRST]
  *
  * Status 1: the module broke a promise (the case's index is printed; the first case of the file has index FIRST, 0 if
  * it is not given). Status 2: wrong use, or trouble with a file.
@@ -189,19 +189,29 @@ static unsigned long index_from(const char *word)
     return index;
 }
 
+/* Which of two entries a command names. */
+static size_t entry_named(int count, char **words, const char *const names[2])
+{
+    for (size_t i = 0; count > 1 && i < 2; i++)
+        if (strcmp(words[1], names[i]) == 0)
+            return i;
+    stop(TROUBLE, "usage: %s %s|%s IN OUT [FIRST]", words[0], names[0], names[1]);
+    return 0;
+}
+
 /* Answers all cases of a file. A case begins with two lengths. */
 static int answer_file(int count, char **words, void (*answer_case)(FILE *in, FILE *out, const uint8_t lengths[8]))
 {
     uint8_t lengths[8];
-    if (count != 3 && count != 4)
-        stop(TROUBLE, "usage: %s IN OUT [FIRST]", words[0]);
-    unsigned long first = count == 4 ? index_from(words[3]) : 0;
-    FILE *in = fopen(words[1], "rb");
+    if (count != 4 && count != 5)
+        stop(TROUBLE, "usage: %s ENTRY IN OUT [FIRST]", words[0]);
+    unsigned long first = count == 5 ? index_from(words[4]) : 0;
+    FILE *in = fopen(words[2], "rb");
     if (in == NULL)
-        stop(TROUBLE, "cannot open %s", words[1]);
-    FILE *out = fopen(words[2], "wb");
+        stop(TROUBLE, "cannot open %s", words[2]);
+    FILE *out = fopen(words[3], "wb");
     if (out == NULL)
-        stop(TROUBLE, "cannot write %s", words[2]);
+        stop(TROUBLE, "cannot write %s", words[3]);
     watch_for_faults();
     for (case_index = first; read_whole(in, lengths, sizeof lengths); case_index++)
         answer_case(in, out, lengths);

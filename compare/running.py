@@ -1,7 +1,7 @@
 """Both programs over the same cases: they must agree, and a difference is told with all that is needed to repeat it.
 
-A SheetRun settles sheets, a ListRun applies lists of transfers to sheets, a RecordRun writes complexes' peaks into
-them. What must hold of each answer by itself is checked here too.
+A SheetRun settles sheets, a Run2015 settles them under the text of 2015, a ListRun applies lists of transfers to
+sheets, a RecordRun writes complexes' peaks into them. What must hold of each answer by itself is checked here too.
 """
 import re
 from pathlib import Path
@@ -10,9 +10,10 @@ import list_cases
 import programs
 import record_cases
 import sheets
+import text_2015_cases
 import transfer_lists
 from complex_records import peak_place
-from records import field_at, result_figures, row_volumes
+from records import field_at, result_2015_figures, result_figures, row_volumes
 
 CHUNK = 500  # cases that the programs are given at a time
 
@@ -29,7 +30,8 @@ class Run:
     """One set of cases, answered by both programs in chunks. Its files are kept only in a folder that was asked for."""
 
     answer_command, marks_command = None, None    # the rival's
-    driver = ()                                   # the module's: a program, with a word if it has several entries
+    driver = ()                                   # the module's: a program, and the word for the entry
+    kinds = None                                  # of the cases
 
     def __init__(self, name, seed, folder, keep):
         self.name, self.seed, self.folder, self.keep = name, seed, Path(folder), keep
@@ -64,6 +66,9 @@ class Run:
         program = "module" if part == "module" else "rival"
         raise Difference(f"compare: seed {self.seed}, {self.name} {start} to {start + len(cases) - 1}: "
                          f"the {program} did not answer, it ended with status {status}\n{printed}")
+
+    def intended_refusal(self, kind):
+        return self.kinds.intended_refusal(kind)
 
     def compare(self, start, cases, by_rival, by_module):
         for index, (case, rival, module) in enumerate(zip(cases, by_rival, by_module), start):
@@ -107,10 +112,8 @@ class Run:
 
 class SheetRun(Run):
     answer_command, marks_command = "batch", "marks"
-    driver = programs.MODULE,
-
-    def intended_refusal(self, kind):
-        return sheets.intended_refusal(kind)
+    driver = programs.MODULE, "settle"
+    kinds = sheets.KINDS
 
     def field_at(self, case, place):
         return field_at(case.sheet, place)
@@ -128,13 +131,27 @@ class SheetRun(Run):
         return ""
 
 
+class Run2015(SheetRun):
+    answer_command, marks_command = "batch2015", "marks2015"
+    driver = programs.MODULE, "settle_2015"
+    kinds = text_2015_cases.KINDS
+
+    def field_at(self, case, place):
+        consumer, at = divmod(place - 4, 17)
+        name = "factor" if at < 1 else "volume" if at < 9 else "charge"
+        return "length" if place < 4 else f"consumer {consumer}, {name}"
+
+    def wrong_in(self, case, result):
+        """The volume is the contract volume or more, and at most half more, rounded upward."""
+        lines = zip(transfer_lists.contract_volumes(case.sheet), result_2015_figures(result))
+        for number, (contract, line) in enumerate(lines):
+            if not contract <= line.volume <= (3 * contract + 1) // 2:
+                return f"consumer {number} has a contract volume of {contract} and a volume of {line.volume}"
+        return ""
+
+
 class ChangeRun(Run):
     """Sheets that are changed by a second buffer."""
-
-    kinds = None    # of the cases
-
-    def intended_refusal(self, kind):
-        return self.kinds.intended_refusal(kind)
 
     def field_at(self, case, place):
         return transfer_lists.field_at(case.sheet, place)

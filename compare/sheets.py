@@ -3,9 +3,7 @@
 
   compare/sheets.py SEED COUNT FILE    writes the first COUNT cases of a seed to FILE and lists their kinds
 
-A case is a kind, a sheet's bytes and the length of the result buffer. A kind is "group/corner", as
-"refusal_4/days_27". The corners of a group come in turn, so each is reached however the seed falls; all else in a
-sheet is drawn.
+A case is a kind (case_kinds.py), a sheet's bytes and the length of the result buffer.
 """
 import random
 import sys
@@ -21,10 +19,11 @@ import powers
 import programs
 import refused
 import ties
-from records import HEADER, MOST_CONSUMERS, MOST_ROWS, TOP_CAPACITY, TOP_Z, result_length
+from case_kinds import Kinds, in_bytes
+from records import HEADER, MOST_CONSUMERS, MOST_ROWS, TOP_CAPACITY, TOP_Z
 from refusals import BUFFER_NUMBER, FORM, TRIED
+from refused import SETTLEMENT_ROOM
 
-LONGEST_RESULT = result_length(MOST_ROWS, MOST_CONSUMERS)
 LONGEST_BUFFER = 2000
 
 
@@ -51,12 +50,12 @@ class Pair(NamedTuple):
 BUFFERS = ("none", "shorter", "shorter_by_one", "exact", "longer_by_one", "much_longer")
 
 # The corners of each group. A corner draws a Sheet, or bytes where the sheet is damaged, or bytes with the length of
-# the result buffer where several rules are broken.
+# the result buffer where it decides on both.
 GROUPS = {
     "checked_months": accepted.CHECKED_MONTHS,
     "slips": accepted.SLIPS,
-    **{f"refusal_{number}": corners for number, corners in refused.REFUSALS.items()},
-    "several_rules": refused.SEVERAL_RULES,
+    **refused.refusal_groups(SETTLEMENT_ROOM),
+    "several_rules": refused.several_rules(SETTLEMENT_ROOM),
     "bands_of_k1": bands.BANDS_OF_K1,
     "bands_of_consumers": bands.BANDS_OF_CONSUMERS,
     "ties": ties.TIES,
@@ -79,25 +78,6 @@ SHARES = {
     "buffers": 4, "ordinary": 6, **{f"refusal_{number}": 1 for number in TRIED},
 }
 
-
-def make_schedule(shares):
-    """The group of each case of a hundred, with its number in the group: first one of each group, then a second."""
-    schedule = []
-    for number in range(max(shares.values())):
-        schedule.extend((group, number) for group in shares if number < shares[group])
-    return schedule
-
-
-def group_and_corner(groups, shares, schedule, index):
-    """The corners of a group come in turn."""
-    group, number = schedule[index % len(schedule)]
-    corners = list(groups[group])
-    turn = index // len(schedule) * shares[group] + number
-    return group, corners[turn % len(corners)]
-
-
-SCHEDULE = make_schedule({group: SHARES[group] for group in GROUPS})
-
 # ------------------------------------------------------------------ cases
 
 
@@ -118,41 +98,41 @@ def draw_buffer(rng, group, corner, needed):
     return refused.short_buffer(rng, form, needed)
 
 
-def draw_case(rng, group, corner):
-    kind = f"{group}/{corner}"
-    drawn = GROUPS[group][corner](rng)
-    if group == "several_rules":
-        return Case(kind, *drawn)
-    sheet = drawn if isinstance(drawn, bytes) else drawn.to_bytes()
-    counts = (sheet[12], sheet[13]) if len(sheet) >= HEADER else (0, 0)
-    needed = min(result_length(*counts), LONGEST_RESULT)
-    return Case(kind, sheet, draw_buffer(rng, group, corner, needed))
+class SheetKinds(Kinds):
+    """Every kind of case that an entry with a result buffer is tried with."""
+
+    def __init__(self, drawn_for, groups, shares, room):
+        super().__init__(drawn_for, groups, shares)
+        self.room = room
+
+    def draw_case(self, rng, group, corner):
+        kind, drawn = f"{group}/{corner}", self.groups[group][corner](rng)
+        if isinstance(drawn, tuple):
+            return Case(kind, *drawn)
+        sheet = in_bytes(drawn)
+        counts = (sheet[12], sheet[13]) if len(sheet) >= HEADER else (0, 0)
+        needed = min(self.room.needed(*counts), self.room.needed(MOST_ROWS, MOST_CONSUMERS))
+        return Case(kind, sheet, draw_buffer(rng, group, corner, needed))
+
+    def intended_refusal(self, kind):
+        """The number for which a case was drawn, 0 if it is to be accepted, None if that is left open."""
+        group, corner = kind.split("/")
+        if group.startswith("refusal_"):
+            return int(group[len("refusal_"):])
+        if group == "several_rules":
+            return int(corner.split("_")[0])
+        if group == "damaged":
+            return None
+        if group == "powers":
+            return 9 if powers.is_above(corner) else 0
+        if corner == "rows_without_producers":
+            return 10
+        if group == "buffers" and corner in ("none", "shorter", "shorter_by_one"):
+            return BUFFER_NUMBER
+        return 0
 
 
-def case(seed, index):
-    return draw_case(random.Random(f"{seed}/{index}"), *group_and_corner(GROUPS, SHARES, SCHEDULE, index))
-
-
-def cases(seed, count, start=0):
-    return (case(seed, index) for index in range(start, start + count))
-
-
-def intended_refusal(kind):
-    """The number for which a case was drawn, 0 if it is to be accepted, None if that is left open."""
-    group, corner = kind.split("/")
-    if group.startswith("refusal_"):
-        return int(group[len("refusal_"):])
-    if group == "several_rules":
-        return int(corner.split("_")[0])
-    if group == "damaged":
-        return None
-    if group == "powers":
-        return 9 if powers.is_above(corner) else 0
-    if corner == "rows_without_producers":
-        return 10
-    if group == "buffers" and corner in ("none", "shorter", "shorter_by_one"):
-        return BUFFER_NUMBER
-    return 0
+KINDS = SheetKinds("", GROUPS, SHARES, SETTLEMENT_ROOM)
 
 
 # ------------------------------------------------------------------ pairs of demand 3
@@ -244,12 +224,16 @@ def worsened(rng, sheet):
     return second
 
 
+def draw_pair(rng, index, groups, taken, second_of):
+    """The first sheet is a corner of a group, the groups that are taken in turn; the second is made of it."""
+    group = "largest" if index % 50 == 49 else taken[index % len(taken)]
+    corner = rng.choice(list(groups[group]))
+    sheet = groups[group][corner](rng)
+    return Pair(f"{group}/{corner}", sheet.to_bytes(), second_of(rng, sheet).to_bytes())
+
+
 def pair(seed, index):
-    rng = random.Random(f"{seed}/pair/{index}")
-    group = "largest" if index % 50 == 49 else PAIR_GROUPS[index % len(PAIR_GROUPS)]
-    corner = rng.choice(list(GROUPS[group]))
-    sheet = GROUPS[group][corner](rng)
-    return Pair(f"{group}/{corner}", sheet.to_bytes(), worsened(rng, sheet).to_bytes())
+    return draw_pair(random.Random(f"{seed}/pair/{index}"), index, GROUPS, PAIR_GROUPS, worsened)
 
 
 def pairs(seed, count, start=0):
@@ -263,7 +247,7 @@ def main():
     words = sys.argv[1:]
     if len(words) != 3 or not (words[0].isdecimal() and words[1].isdecimal()):
         raise programs.Trouble("usage: compare/sheets.py SEED COUNT FILE")
-    drawn = list(cases(int(words[0]), int(words[1])))
+    drawn = list(KINDS.cases(int(words[0]), int(words[1])))
     programs.write_cases(words[2], drawn)
     for index, each in enumerate(drawn):
         print(index, each.kind, len(each.sheet), each.buffer)

@@ -5,6 +5,7 @@
 
 OUTDIR/GROUP holds cases one after another: sheet length (4 bytes, highest first), result buffer length (4),
 kind of answer (1: 0 result, 1 refusal), byte count or refusal number (4), the sheet, for kind 0 the result.
+OUTDIR/text_2015_NAME holds sheets under the text of 2015 in the same way.
 OUTDIR/transfers holds sheets with lists of transfers: sheet length (4), list length (4), kind of answer (1: 0 done,
 1 refusal), byte count 0 or refusal number (4), the sheet, the list, and the sheet afterwards, which after a refusal is
 the sheet again. OUTDIR/averages holds sheets with a complex's record in the same way. FILE gets a line for each file of
@@ -23,8 +24,11 @@ import list_cases
 import programs
 import record_cases
 import sheets
+import text_2015_cases
 from bands import EDGES
 from programs import Trouble
+from refusals import FIGURES
+from text_2015_run import MARKS
 
 SEED = 152
 LONGEST_SHEET = 65_000
@@ -95,6 +99,21 @@ RECORDS = (
     "several_rules/12_and_16_eight_bytes", "several_rules/16_consumer_next_and_17",
 )
 
+# Sheets under the text of 2015, each kind once: whole groups and single kinds, few of them with producers. All marks
+# must be reached.
+TEXT_2015 = {
+    "text_2015_bands": ("bands", "not_known/credit_12", "not_known/supplier_days", "not_known/grid_days", "not_known/z",
+                        "not_known/mining_days_and_z"),
+    "text_2015_ties": ("volumes", "charges"),
+    "text_2015_rooms": ("counts/no_consumers", "counts/one_consumer", "counts/all_32_consumers", "buffers", "rooms"),
+    "text_2015_refusals": (
+        "refusal_1/thirteen_bytes", "refusal_2/one_more", "refusal_3/version_2", "refusal_4/days_27",
+        "refusal_5/consumers_33", "refusal_6/one_byte_more", "refusal_7", "refusal_8/no_plan", "refusal_9/peak",
+        "refusal_9/contract", "refusal_9/outside_last_hour", "refusal_10/no_producers", "refusal_11/consumer_price",
+        "refusal_12/z_9", "refusal_12/grid_days_next", "several_rules/6_and_7",
+        *(f"several_rules/7_and_{number}" for number in FIGURES)),
+}
+
 
 def corners_stored(group):
     corners = [corner for corner in sheets.GROUPS[group] if f"{group}/{corner}" not in LEFT_OUT]
@@ -115,9 +134,15 @@ def draw_stored(draw_case, seed, length, group, corner):
 
 def stored_cases(group):
     times, length = PLAN[group]
-    cases = [draw_stored(sheets.draw_case, f"{SEED}/{group}/{corner}/{number}", length, group, corner)
+    cases = [draw_stored(sheets.KINDS.draw_case, f"{SEED}/{group}/{corner}/{number}", length, group, corner)
              for number in range(times) for corner in corners_stored(group)]
     return [case for case in cases if len(case.sheet) <= LONGEST_SHEET]
+
+
+def kinds_of_2015(file):
+    """The kinds that a file of sheets under the text of 2015 stores."""
+    for stored in TEXT_2015[file]:
+        yield from [stored] if "/" in stored else (f"{stored}/{corner}" for corner in text_2015_cases.GROUPS[stored])
 
 
 # The files of sheets that an entry changes: the kinds of its cases, those that are stored, the length if it can be.
@@ -157,10 +182,26 @@ def answered_sheets(group, folder):
     """The stored cases of a group, each in bytes."""
     cases = stored_cases(group)
     answers = programs.rival_answers(cases, folder)
-    check_intended(cases, answers, sheets.intended_refusal)
+    check_intended(cases, answers, sheets.KINDS.intended_refusal)
     if group == "checked_months":
         programs.check_paper(cases, answers)
     return list(map(stored_bytes, cases, answers))
+
+
+def answered_2015(folder):
+    """The files of sheets under the text of 2015, and the cases of each in bytes."""
+    kinds = text_2015_cases.KINDS
+    named = [(file, kind) for file in TEXT_2015 for kind in kinds_of_2015(file)]
+    cases = [draw_stored(kinds.draw_case, f"{SEED}/2015/{kind}", NO_PRODUCER, *kind.split("/")) for _, kind in named]
+    answers = programs.rival_answers(cases, folder, "batch2015")
+    check_intended(cases, answers, kinds.intended_refusal)
+    missed = {mark for marks in MARKS.values() for mark in marks} - programs.rival_marks(cases, folder, "marks2015")
+    if missed:
+        raise Trouble(f"the stored sheets under the text of 2015 do not reach {', '.join(sorted(missed))}")
+    files = {file: [] for file in TEXT_2015}
+    for (file, _), case, answer in zip(named, cases, answers):
+        files[file].append(stored_bytes(case, answer))
+    return files
 
 
 def answered_changes(file, folder):
@@ -178,6 +219,7 @@ def main():
     programs.make_folder(programs.OUT)
     with tempfile.TemporaryDirectory(dir=programs.OUT) as folder:
         files = {group: answered_sheets(group, folder) for group in PLAN}
+        files.update(answered_2015(folder))
         files.update((file, answered_changes(file, folder)) for file in CHANGED)
     total = sum(len(each) for stored in files.values() for each in stored)
     if total >= MOST_BYTES:
@@ -185,7 +227,7 @@ def main():
     programs.make_folder(options.outdir)
     for group, stored in files.items():
         programs.write_file(Path(options.outdir) / group, b"".join(stored))
-    lines = "".join(f"{group} {len(files[group])}\n" for group in PLAN)
+    lines = "".join(f"{group} {len(files[group])}\n" for group in (*PLAN, *TEXT_2015))
     if options.expect:
         programs.write_file(options.expect, lines.encode())
     print(f"stored: {sum(map(len, files.values()))} cases in {len(files)} files, {total} bytes")

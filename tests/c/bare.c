@@ -1,7 +1,7 @@
 /*
- * Settles the example sheet, applies the example list, and takes the example complex's peak, in a program that has no C
- * library. The archive needs memcpy and memset, which stand here. The status is 0 if answers, result and sheets are
- * right. Linux on x86-64.
+ * Settles the example sheet, also under the text of 2015, applies the example list, and takes the example complex's
+ * peak, in a program that has no C library. The archive needs memcpy and memset, which stand here. The status is 0 if
+ * answers, results and sheets are right. Linux on x86-64.
  */
 #include "capacity.h"
 #include "example.h"
@@ -44,6 +44,13 @@ static int settles_example(void)
            same(result, expected, sizeof expected);
 }
 
+static int settles_under_2015(void)
+{
+    uint8_t result[sizeof expected_2015];
+    return capacity_settle_2015(sheet, sizeof sheet, result, sizeof result) == (int64_t)sizeof expected_2015 &&
+           same(result, expected_2015, sizeof expected_2015);
+}
+
 static int applies_list(void)
 {
     uint8_t lent[sizeof members];
@@ -69,5 +76,5 @@ __attribute__((force_align_arg_pointer)) void _start(void);
 
 void _start(void)
 {
-    leave(settles_example() && applies_list() && takes_peak() ? 0 : 1);
+    leave(settles_example() && settles_under_2015() && applies_list() && takes_peak() ? 0 : 1);
 }

@@ -1,6 +1,7 @@
 /*
- * Settles document 01's example sheet through the C entries, applies a list of transfers to another, and writes a
- * complex's peak into that. Every byte of a buffer that a call may write to is checked afterwards.
+ * Settles document 01's example sheet through the C entries, also under the text of 2015, applies a list of transfers
+ * to another, and writes a complex's peak into that. Every byte of a buffer that a call may write to is checked
+ * afterwards.
  */
 #include <stdio.h>
 #include <string.h>
@@ -29,42 +30,53 @@ static void expect_byte(const char *what, const uint8_t *buffer, size_t at, uint
     }
 }
 
-static void check_accepted(void)
+/* An entry that settles, with its result of the example sheet. */
+struct settlement {
+    const char *name;
+    int64_t (*settle)(const uint8_t *, size_t, uint8_t *, size_t);
+    const uint8_t *expected;
+    size_t length;
+};
+
+static const struct settlement settlements[] = {
+    {"example sheet", capacity_settle, expected, sizeof expected},
+    {"example sheet under the text of 2015", capacity_settle_2015, expected_2015, sizeof expected_2015},
+};
+
+/* The first bytes of the sheet, settled into this room. The buffer has more bytes, so that a write past it is seen. */
+static void check_settled(const struct settlement *by, size_t sheet_length, size_t room, int64_t wanted)
 {
-    uint8_t buffer[CAPACITY_LARGEST_RESULT];
+    uint8_t buffer[CAPACITY_LARGEST_RESULT + 1];
+    char what[80];
+    snprintf(what, sizeof what, "%s, room of %zu bytes", by->name, room);
     memset(buffer, UNTOUCHED, sizeof buffer);
-    int64_t answer = capacity_settle(sheet, sizeof sheet, buffer, sizeof buffer);
-    expect_answer("example sheet", answer, 46);
+    expect_answer(what, by->settle(sheet, sheet_length, buffer, room), wanted);
     for (size_t i = 0; i < sizeof buffer; i++)
-        expect_byte("example sheet", buffer, i, i < 46 ? expected[i] : UNTOUCHED);
+        expect_byte(what, buffer, i, (int64_t)i < wanted ? by->expected[i] : UNTOUCHED);
 }
 
-static void check_exact_room(void)
+/* In more room than is needed, in as much, in one byte less and in none; and a sheet of no bytes. */
+static void check_settlements(void)
 {
-    uint8_t buffer[46];
-    memset(buffer, UNTOUCHED, sizeof buffer);
-    expect_answer("buffer of 46 bytes", capacity_settle(sheet, sizeof sheet, buffer, sizeof buffer), 46);
-    for (size_t i = 0; i < sizeof buffer; i++)
-        expect_byte("buffer of 46 bytes", buffer, i, expected[i]);
+    for (size_t i = 0; i < sizeof settlements / sizeof settlements[0]; i++) {
+        const struct settlement *by = &settlements[i];
+        check_settled(by, sizeof sheet, CAPACITY_LARGEST_RESULT, (int64_t)by->length);
+        check_settled(by, sizeof sheet, by->length, (int64_t)by->length);
+        check_settled(by, sizeof sheet, by->length - 1, -CAPACITY_SHORT_BUFFER);
+        check_settled(by, sizeof sheet, 0, -CAPACITY_SHORT_BUFFER);
+        check_settled(by, 0, CAPACITY_LARGEST_RESULT, -CAPACITY_NO_HEADER);
+    }
 }
 
-/* The buffer has a byte more than is lent, so that a write past the end is seen. */
-static void check_too_short(void)
+/* The figures that the reader takes from the result under the text of 2015. */
+static void check_line_2015(void)
 {
-    uint8_t buffer[46];
-    memset(buffer, UNTOUCHED, sizeof buffer);
-    expect_answer("buffer of 45 bytes", capacity_settle(sheet, sizeof sheet, buffer, 45), -7);
-    for (size_t i = 0; i < sizeof buffer; i++)
-        expect_byte("buffer of 45 bytes", buffer, i, UNTOUCHED);
-}
-
-/* Buffers of no bytes: their pointers lead to no byte that may be read or written. */
-static void check_no_bytes(void)
-{
-    uint8_t buffer[1] = {UNTOUCHED};
-    expect_answer("sheet of no bytes", capacity_settle(sheet + sizeof sheet, 0, buffer, sizeof buffer), -1);
-    expect_answer("buffer of no bytes", capacity_settle(sheet, sizeof sheet, buffer, 0), -7);
-    expect_byte("buffer of no bytes", buffer, 0, UNTOUCHED);
+    struct capacity_line_2015 line = capacity_read_2015(expected_2015, 0);
+    if (line.factor != 15 || line.volume != 1500 || line.charge != 15000000) {
+        printf("C example: text of 2015: factor %d, volume %llu, charge %llu\n", line.factor,
+               (unsigned long long)line.volume, (unsigned long long)line.charge);
+        wrong = 1;
+    }
 }
 
 /* ---------------------------------------------------------------- transfers */
@@ -219,10 +231,8 @@ static void check_bad_records(void)
 
 int main(void)
 {
-    check_accepted();
-    check_exact_room();
-    check_too_short();
-    check_no_bytes();
+    check_settlements();
+    check_line_2015();
     check_applied_and_settled();
     check_empty_list();
     check_bad_lists();

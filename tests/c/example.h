@@ -1,4 +1,7 @@
-/* Document 01's example sheet and its result; two consumers, a transfer between them, what comes of it; a complex. */
+/*
+ * Document 01's example sheet, its result, and its result under the text of 2015; two consumers, a transfer between
+ * them, what comes of it; a complex.
+ */
 #ifndef EXAMPLE_H
 #define EXAMPLE_H
 
@@ -21,6 +24,14 @@ static const uint8_t expected[46] = {
     0, 0, 0, 0, 0, 189, 53, 128, /* charge 12,400,000 tiyn */
     0, 0, 0, 0, 0, 0, 0, 0,      /* total paid */
     0, 0, 0, 0, 0, 189, 53, 128, /* total charged */
+};
+
+/* Under the text of 2015: the peak is 26.00 percent above the contract volume. */
+static const uint8_t expected_2015[21] = {
+    0, 0, 0, 21,                  /* length */
+    15,                           /* factor 1.5 */
+    0, 0, 0, 0, 0, 0, 5, 220,     /* volume 150.0 */
+    0, 0, 0, 0, 0, 228, 225, 192, /* charge 15,000,000 tiyn */
 };
 
 /* Two consumers with contract volumes of 150.0 and 50.0 and peaks of 126.0 and 105.0, all else as above. */

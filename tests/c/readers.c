@@ -1,7 +1,8 @@
 /*
  * The header's readers, held to the stored results.
  *
- *   readers FILE...      files of stored cases (crates/vectors/data; compare/README.md has their format)
+ *   readers settle FILE...         files of stored cases (crates/vectors/data; compare/README.md has their format)
+ *   readers settle_2015 FILE...    files of stored cases under the text of 2015 (crates/vectors/data/text_2015_*)
  *
  * Each stored result is read figure by figure and its bytes are laid out again from what was read, through shifts that the
  * header does not have: all must be the stored ones, and the totals the sums of what was read. It prints how many results
@@ -31,7 +32,7 @@ static uint8_t *put(uint8_t *at, uint64_t number, int bytes)
 }
 
 /* The bytes behind the head, from the figures that are read; their count. */
-static size_t laid_again(const char *file)
+static size_t settled_again(const char *file)
 {
     size_t rows = capacity_rows(sheet), consumers = capacity_consumers(sheet);
     uint64_t paid = 0, charged = 0;
@@ -53,6 +54,36 @@ static size_t laid_again(const char *file)
     return (size_t)(put(put(at, totals.paid, 8), totals.charged, 8) - again);
 }
 
+/* The same under the text of 2015. */
+static size_t settled_2015_again(const char *file)
+{
+    uint8_t *at = again;
+    (void)file;
+    for (size_t i = 0; i < capacity_consumers(sheet); i++) {
+        struct capacity_line_2015 line = capacity_read_2015(told, i);
+        at = put(put(put(at, line.factor, 1), line.volume, 8), line.charge, 8);
+    }
+    return (size_t)(at - again);
+}
+
+/* An entry: the bytes of its result's head, and what lays out those behind it. */
+static const struct entry {
+    const char *name;
+    size_t head;
+    size_t (*laid_again)(const char *file);
+} entries[] = {
+    {"settle", 5, settled_again},
+    {"settle_2015", 4, settled_2015_again},
+};
+
+static const struct entry *entry_named(const char *name)
+{
+    for (size_t i = 0; i < sizeof entries / sizeof entries[0]; i++)
+        if (strcmp(entries[i].name, name) == 0)
+            return &entries[i];
+    return NULL;
+}
+
 static void read_whole(FILE *in, uint8_t *bytes, size_t length, const char *file)
 {
     if (length > LONGEST || fread(bytes, 1, length, in) != length)
@@ -62,11 +93,12 @@ static void read_whole(FILE *in, uint8_t *bytes, size_t length, const char *file
 int main(int count, char **words)
 {
     size_t results = 0;
-    if (count < 2) {
-        fputs("usage: readers FILE...\n", stderr);
+    const struct entry *entry = count < 3 ? NULL : entry_named(words[1]);
+    if (entry == NULL) {
+        fputs("usage: readers settle|settle_2015 FILE...\n", stderr);
         return 2;
     }
-    for (int i = 1; i < count; i++) {
+    for (int i = 2; i < count; i++) {
         FILE *in = fopen(words[i], "rb");
         if (in == NULL)
             stop(2, words[i], "cannot open it");
@@ -76,7 +108,8 @@ int main(int count, char **words)
             if (front[8] != 0)
                 continue;
             read_whole(in, told, length, words[i]);
-            if (laid_again(words[i]) + 5 != length || memcmp(again, told + 5, length - 5) != 0)
+            size_t head = entry->head;
+            if (entry->laid_again(words[i]) + head != length || memcmp(again, told + head, length - head) != 0)
                 stop(1, words[i], "the figures read do not give the stored bytes");
             results++;
         }

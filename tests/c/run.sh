@@ -22,12 +22,18 @@ strict() {
     "$@" -pedantic -Wall -Wextra -Werror -Iinclude
 }
 
-# The stored cases: sheets with results, sheets with lists of transfers, and sheets with complexes' records.
+# The stored cases: sheets with results, with results under the text of 2015, with lists of transfers, and with
+# complexes' records.
 lists=crates/vectors/data/transfers
 records=crates/vectors/data/averages
 sheets=
+sheets_2015=
 for file in crates/vectors/data/*; do
-    [ "$file" = "$lists" ] || [ "$file" = "$records" ] || sheets="$sheets $file"
+    case $file in
+    "$lists" | "$records") ;;
+    */text_2015_*) sheets_2015="$sheets_2015 $file" ;;
+    *) sheets="$sheets $file" ;;
+    esac
 done
 
 # The header alone, and the example.
@@ -46,11 +52,18 @@ else
     echo "C++ example: left out, there is no $CXX"
 fi
 
-# The header's readers of a result, from C and C++.
+# The header's readers of a result.
 strict "$CC" -std=c99 -O1 -o "$out/readers" tests/c/readers.c || fail "readers.c does not build"
-results=$("$out/readers" $sheets) || fail "the header's readers read a stored result otherwise"
-[ "$results" -gt 0 ] || fail "no stored result was read"
-echo "readers: $results stored results, every figure"
+
+# Those of an entry, on files of its stored cases.
+readers() {
+    results=$("$out/readers" "$@") || fail "the header's readers read a stored result of capacity_$1 otherwise"
+    [ "$results" -gt 0 ] || fail "no stored result of capacity_$1 was read"
+    echo "readers: capacity_$1, $results stored results, every figure"
+}
+
+readers settle $sheets
+readers settle_2015 $sheets_2015
 
 # Without a C library.
 strict "$CC" -std=c99 -ffreestanding -fno-stack-protector -nostdlib -static -o "$out/bare" tests/c/bare.c "$archive" ||
@@ -101,6 +114,7 @@ measure() {
 }
 
 measure settle $sheets
+measure settle_2015 $sheets_2015
 measure transfer "$lists"
 measure average "$records"
 echo "stack: all frames together have $frames bytes"

@@ -2,6 +2,7 @@
  * How much stack the entries use.
  *
  *   stack settle FILE...        files of stored cases (crates/vectors/data; compare/README.md has their format)
+ *   stack settle_2015 FILE...   files of stored cases under the text of 2015 (crates/vectors/data/text_2015_*)
  *   stack transfer FILE...      files of stored lists (crates/vectors/data/transfers)
  *   stack average FILE...       files of stored records (crates/vectors/data/averages)
  *
@@ -92,9 +93,20 @@ struct entry {
     size_t (*written)(void);      /* the bytes of `told`; after the call they must be in `lent` */
 };
 
+/* An entry that settles into a result buffer. */
+static int64_t settle_by(void (*entry)(void))
+{
+    return call_on_stack(entry, stored.sheet, sheet_length(), lent, second_length());
+}
+
 static int64_t settle(void)
 {
-    return call_on_stack((void (*)(void))capacity_settle, stored.sheet, sheet_length(), lent, second_length());
+    return settle_by((void (*)(void))capacity_settle);
+}
+
+static int64_t settle_2015(void)
+{
+    return settle_by((void (*)(void))capacity_settle_2015);
 }
 
 static size_t nothing_given(void)
@@ -126,6 +138,7 @@ static int64_t average(void)
 
 static const struct entry entries[] = {
     {"settle", settle, nothing_given, result_length},
+    {"settle_2015", settle_2015, nothing_given, result_length},
     {"transfer", transfer, second_length, sheet_length},
     {"average", average, second_length, sheet_length},
 };
@@ -185,7 +198,7 @@ int main(int count, char **words)
     size_t cases = 0, longest = 0, used = 0;
     const struct entry *entry = count < 3 ? NULL : entry_named(words[1]);
     if (entry == NULL) {
-        fputs("usage: stack settle|transfer|average FILE...\n", stderr);
+        fputs("usage: stack settle|settle_2015|transfer|average FILE...\n", stderr);
         return 2;
     }
     for (int i = 2; i < count; i++) {

@@ -21,7 +21,7 @@ MOST_REPAIRS = 12   # of one sheet
 def draw():
     """The sheets of a seed as the program is handed them, with the rival's answers in a buffer that is long enough."""
     cases = [case._replace(sheet=case.sheet[:refusals.HANDED_OVER], buffer=sheets.LONGEST_BUFFER)
-             for case in sheets.cases(SEED, DRAWN)]
+             for case in sheets.KINDS.cases(SEED, DRAWN)]
     with tempfile.TemporaryDirectory() as folder:
         return cases, programs.rival_answers(cases, folder)
 

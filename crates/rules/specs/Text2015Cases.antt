@@ -7,7 +7,7 @@ use lib.ListN.{replicate}
 use Rattle.rules.specs.Month.{Month}
 use Rattle.rules.specs.Outcome.{refused, written}
 use Rattle.rules.specs.Text2015.{excessOf, factorFor, volumeFor, factor2015, volume2015, charge2015}
-use Rattle.rules.specs.Result2015.{Figures2015, read2015}
+use Rattle.rules.specs.Result2015.{Figures2015, record2015At, read2015}
 use Rattle.rules.specs.Outcome2015.{refusal2015, outcome2015, bufferAfter2015}
 use Rattle.rules.specs.Samples.{producer, row, consumer, month, every, Figure, figure, wrong}
 use Rattle.rules.specs.Open.{settlement, layout, text2015}
@@ -164,6 +164,8 @@ answerFigures =
     ∷ figure (readBack 1 .factor) 15
     ∷ figure (readBack 1 .volume) 5
     ∷ figure (readBack 1 .charge) 50000
+    -- a third record would begin behind them, at 4 + 2 × 17
+    ∷ figure (record2015At 2) 38
     -- the order of the numbers: a wrong length field comes before 7, 7 before a z of 0.9
     ∷ figure (refusal2015 (twoConsumers 45 9) 37) 2
     ∷ figure (refusal2015 (twoConsumers 44 9) 37) 7

@@ -5,14 +5,16 @@ use fields::word;
 use libc::STDOUT_FILENO;
 use rules::Answer;
 use settlement::settle;
+use text2015::settle_2015;
 
 // What stands before a case's sheet: the sheet's length, the result buffer's length, and the rival's answer, which is a refusal's number
-// or the count of the bytes that follow the sheet.
+// or the count of the bytes that follow the sheet. And whether it is to be settled under the text of 2015.
 struct Case {
     length: usize,
     room: usize,
     refused: bool,
     number: usize,
+    old: bool,
 }
 
 enum Compared {
@@ -21,12 +23,13 @@ enum Compared {
     NoMore,
 }
 
-fn case_of(front: &[u8]) -> Case {
+fn case_of(front: &[u8], old: bool) -> Case {
     Case {
         length: word(front, 0) as usize,
         room: word(front, 4) as usize,
         refused: byte(front, 8) != 0,
         number: word(front, 9) as usize,
+        old,
     }
 }
 
@@ -38,6 +41,15 @@ fn same_answer(answer: Answer, c: Case) -> bool {
     }
 }
 
+// The entry for the text that is asked for.
+fn settle_under(old: bool, sheet: &[u8], result: &mut [u8]) -> Answer {
+    if old {
+        settle_2015(sheet, result)
+    } else {
+        settle(sheet, result)
+    }
+}
+
 // The sheet settled into a buffer: the answer, the result and the bytes past it are as they should be. `kept` is what the buffer held before.
 fn settles(sheet: &[u8], told: &[u8], c: Case, result: &mut [u8], kept: &[u8]) -> bool {
     let room = c.room;
@@ -45,7 +57,7 @@ fn settles(sheet: &[u8], told: &[u8], c: Case, result: &mut [u8], kept: &[u8]) -
     if result.len() < room {
         return false;
     }
-    let answer = settle(sheet, &mut result[..room]);
+    let answer = settle_under(c.old, sheet, &mut result[..room]);
     if result.len() < count {
         return false;
     }
@@ -70,12 +82,12 @@ fn twice(sheet: &[u8], told: &[u8], c: Case) -> bool {
 }
 
 // The next case of a file, read into two buffers.
-fn compare_by(file: i32, sheet: &mut [u8], told: &mut [u8]) -> Compared {
+fn compare_by(file: i32, old: bool, sheet: &mut [u8], told: &mut [u8]) -> Compared {
     let mut front = [0u8; 13];
     if io::read_full(file, &mut front) < 13 {
         return Compared::NoMore;
     }
-    let c = case_of(&front);
+    let c = case_of(&front, old);
     let length = c.length;
     let count = if c.refused { 0 } else { c.number };
     if sheet.len() < length {
@@ -97,10 +109,10 @@ fn compare_by(file: i32, sheet: &mut [u8], told: &mut [u8]) -> Compared {
 }
 
 // The next case of a file.
-fn compare(file: i32) -> Compared {
+fn compare(file: i32, old: bool) -> Compared {
     let mut sheet = io::large_buffer();
     let mut told = [0u8; 2000];
-    compare_by(file, &mut sheet, &mut told)
+    compare_by(file, old, &mut sheet, &mut told)
 }
 
 // How many cases of a file agree, and whether those were all.
@@ -109,10 +121,10 @@ struct Tally {
     all: bool,
 }
 
-fn tally_of(file: i32) -> Tally {
+fn tally_of(file: i32, old: bool) -> Tally {
     let mut n: u64 = 0;
     while n < 10000 {
-        let seen = compare(file);
+        let seen = compare(file, old);
         match seen {
             Compared::Alike => n += 1,
             Compared::Different => return Tally {
@@ -136,13 +148,13 @@ fn print(text: &[u8]) {
 }
 
 // The cases of one kind: the kind and their count, or the number of the first that differs.
-fn kind(name: &[u8]) {
+fn kind_under(old: bool, name: &[u8]) {
     let file = os::open_read(name);
     if file < 0 {
         os::fail(name);
         return;
     }
-    let seen = tally_of(file);
+    let seen = tally_of(file, old);
     libc::close(file);
     print(name);
     if !seen.all {
@@ -151,6 +163,10 @@ fn kind(name: &[u8]) {
     print(b" ");
     io::print_decimal(STDOUT_FILENO, seen.count);
     print(b"\n");
+}
+
+fn kind(name: &[u8]) {
+    kind_under(false, name);
 }
 
 // Document 01's own months, and the slips.
@@ -199,10 +215,19 @@ fn limits() {
     kind(b"buffers");
 }
 
+// Consumers under the text of 2015.
+fn text_2015() {
+    kind_under(true, b"text_2015_bands");
+    kind_under(true, b"text_2015_ties");
+    kind_under(true, b"text_2015_rooms");
+    kind_under(true, b"text_2015_refusals");
+}
+
 fn main() {
     papers();
     first_refusals();
     last_refusals();
     settled();
     limits();
+    text_2015();
 }

@@ -8,14 +8,14 @@ use Rattle.vectors.proofs.settles.Tie as tie
 returns : tie.Need-returns
 returns c = search needs
 
-slice-relend-prefix-settle : tie.Need-slice-relend-prefix-settle
-slice-relend-prefix-settle c = search needs
+slice-relend-prefix-settle-under : tie.Need-slice-relend-prefix-settle-under
+slice-relend-prefix-settle-under c = search needs
 
-slice-aggregate-settle : tie.Need-slice-aggregate-settle
-slice-aggregate-settle c = sym (length-take-le _ _ (omega arith))
+slice-aggregate-settle-under : tie.Need-slice-aggregate-settle-under
+slice-aggregate-settle-under c = sym (length-take-le _ _ (omega arith))
 
-settle-requires : tie.Need-settle-requires
-settle-requires c κs = search needs
+settle-under-requires : tie.Need-settle-under-requires
+settle-under-requires c κs = search needs
 
 same-length : tie.Need-same-length
 same-length c = search needs
@@ -73,9 +73,9 @@ settles-spec =
     tie.close
     (tie.spec
     returns
-    slice-relend-prefix-settle
-    slice-aggregate-settle
-    settle-requires
+    slice-relend-prefix-settle-under
+    slice-aggregate-settle-under
+    settle-under-requires
     same-length
     returns-2
     same-length-2

@@ -4,10 +4,10 @@ use Rattle.vectors.proofs.tally_of.Statement.{statement}
 use Rattle.vectors.proofs.tally_of.Tie as tie
 
 abbrev Inv-loop : tie.InvT-loop
-Inv-loop file n₀ n = n ≤ 10000
+Inv-loop file old n₀ n = n ≤ 10000
 
 abbrev μ-loop : tie.MeasureT-loop
-μ-loop file n₀ n = 10000 - n
+μ-loop file old n₀ n = 10000 - n
 
 loop-holds : tie.Need-loop-holds Inv-loop μ-loop
 loop-holds c = search needs

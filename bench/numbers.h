@@ -1,6 +1,6 @@
-/* What transfer.c and average.c share: the numbers of a sheet that is to be changed and not settled. */
-#ifndef BENCH_CHANGE_H
-#define BENCH_CHANGE_H
+/* What transfer.c, average.c and settle_2015.c share: the numbers of a sheet whose powers are only tried. */
+#ifndef BENCH_NUMBERS_H
+#define BENCH_NUMBERS_H
 
 #include "sheet.h"
 
@@ -106,7 +106,7 @@ static inline int figure_refusal(const struct header *h)
 /* Numbers 1 to 12 save 7, of a sheet that is to be changed; 0 where none applies, and then the header is filled. */
 static inline int sheet_refusal(struct header *h, const uint8_t *sheet, size_t length)
 {
-    int refusal = read_header(h, sheet, length, SIZE_MAX);
+    int refusal = read_header(h, sheet, length);
     return refusal != 0 ? refusal : figure_refusal(h);
 }
 
