@@ -1,8 +1,9 @@
 //! The stored sheets, lists and records with the rival's answers, crates/vectors/data (compare/README.md has the
-//! format): one after the other, and by several threads at once.
+//! format): one after the other, and by several threads at once. Kinds that begin with text_2015_ are sheets under the
+//! text of 2015.
 mod common;
 
-use capacity::{average, settle, transfer, Figures};
+use capacity::{average, settle, settle_2015, transfer, Figures, Figures2015, Refusal};
 use common::Change;
 use std::fs;
 use std::path::{Path, PathBuf};
@@ -86,10 +87,23 @@ fn kinds() -> Vec<(String, usize)> {
     listed.lines().map(kind).collect()
 }
 
+fn under_2015(kind: &str) -> bool {
+    kind.starts_with("text_2015_")
+}
+
+/// The entry that settles the sheets of a kind.
+fn entry_of(kind: &str) -> fn(&[u8], &mut [u8]) -> Result<usize, Refusal> {
+    if under_2015(kind) {
+        settle_2015
+    } else {
+        settle
+    }
+}
+
 /// The answer, the result and every byte around it are as stored.
-fn agrees(case: &Case, fill: u8) -> bool {
+fn agrees(kind: &str, case: &Case, fill: u8) -> bool {
     let mut buffer = vec![fill; 8 + case.room + 8];
-    let answer = settle(&case.sheet, &mut buffer[8..8 + case.room]);
+    let answer = entry_of(kind)(&case.sheet, &mut buffer[8..8 + case.room]);
     let mut wanted = vec![fill; buffer.len()];
     if let Ok(result) = &case.told {
         wanted[8..8 + result.len()].copy_from_slice(result);
@@ -110,7 +124,7 @@ fn agrees_changed(entry: Change, case: &ChangeCase, fill: u8) -> bool {
 fn settle_all(stored: &[(String, Vec<Case>)]) {
     for (kind, cases) in stored {
         for (at, case) in cases.iter().enumerate() {
-            assert!(agrees(case, 0xA5) && agrees(case, 0x5A), "{kind}, case {at}");
+            assert!(agrees(kind, case, 0xA5) && agrees(kind, case, 0x5A), "{kind}, case {at}");
         }
     }
 }
@@ -191,19 +205,42 @@ fn laid_again(sheet: &[u8], result: &[u8]) -> Vec<u8> {
     bytes
 }
 
+/// The same of a result under the text of 2015.
+fn laid_again_2015(sheet: &[u8], result: &[u8]) -> Vec<u8> {
+    let figures = Figures2015::of(sheet, result).expect("a result of this sheet");
+    assert_eq!(figures.consumers().len(), usize::from(sheet[13]));
+    let mut bytes = result[..4].to_vec();
+    for line in figures.consumers() {
+        bytes.push(line.factor);
+        bytes.extend(line.volume.to_be_bytes());
+        bytes.extend(line.charge.to_be_bytes());
+    }
+    bytes
+}
+
+/// Whether there are figures of so many bytes of a result.
+fn is_read(kind: &str, sheet: &[u8], result: &[u8]) -> bool {
+    if under_2015(kind) {
+        Figures2015::of(sheet, result).is_some()
+    } else {
+        Figures::of(sheet, result).is_some()
+    }
+}
+
 #[test]
 fn figures_are_read_where_they_stand() {
-    let mut results = 0;
+    let mut results = [0, 0];
     for (kind, cases) in stored() {
+        let again = if under_2015(&kind) { laid_again_2015 } else { laid_again };
         for (at, case) in cases.iter().enumerate() {
             let Ok(result) = &case.told else { continue };
-            assert_eq!(laid_again(&case.sheet, result), *result, "{kind}, case {at}");
+            assert_eq!(again(&case.sheet, result), *result, "{kind}, case {at}");
             let longer = [&result[..], &[0xA5; 7]].concat();
-            assert_eq!(laid_again(&case.sheet, &longer), *result, "{kind}, case {at}");
-            assert!(Figures::of(&case.sheet, &result[..result.len() - 1]).is_none());
-            assert!(Figures::of(&case.sheet[..13], result).is_none());
-            results += 1;
+            assert_eq!(again(&case.sheet, &longer), *result, "{kind}, case {at}");
+            assert!(!is_read(&kind, &case.sheet, &result[..result.len() - 1]));
+            assert!(!is_read(&kind, &case.sheet[..13], result));
+            results[usize::from(under_2015(&kind))] += 1;
         }
     }
-    assert!(results > 0);
+    assert!(results.iter().all(|count| *count > 0));
 }
