@@ -11,8 +11,8 @@ from demand_3 import Rule, compare_pairs, moved_in
 from records import result_2015_figures
 from refusals import TRIED
 from running import CHUNK, Run2015, SheetRun, answer_text
+from text_2015_sheets import EDGES
 
-EDGES = (500, 1000, 2000)
 MARKS = {
     "refusals": [f"N{number}" for number in TRIED] + ["7oneless"],
     "factors": [f"factor{factor}" for factor in (10, 11, 12, 15)],
@@ -57,7 +57,7 @@ def compare_sheets(run, again, settling, count):
 
 
 def figures_compared(sheet, result):
-    """Nothing is to be no larger in the second sheet; every figure of a consumer is to be no smaller."""
+    """None that may not be larger in the second result; every figure of a consumer, which may not be smaller."""
     return {}, {f"consumer {number}, {name}": figure for number, line in enumerate(result_2015_figures(result))
                 for name, figure in line._asdict().items()}
 

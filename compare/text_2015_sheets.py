@@ -49,7 +49,8 @@ def peak_equal(rng):
 
 def highest_peak(rng):
     """Over a contract volume at which the factor changes, or far above one."""
-    return rng.choice((1, 2, LARGEST_RAISED, LARGEST_RAISED + 1, 90_908, 95_238, TOP_CAPACITY)), TOP_CAPACITY
+    contract = rng.choice((1, 2, LARGEST_RAISED, LARGEST_RAISED + 1, 90_904, 90_905, 95_233, 95_234, TOP_CAPACITY))
+    return contract, TOP_CAPACITY
 
 
 def largest_volume(rng):
@@ -122,7 +123,7 @@ CHARGES = {
     "half": priced_sheet(ENDING_IN_1, ending_in((5,))), "down": priced_sheet(ENDING_IN_1, ending_in((1, 2, 3, 4))),
     "up": priced_sheet(ENDING_IN_1, ending_in((6, 7, 8, 9))), "whole": priced_sheet(ENDING_IN_1, ending_in((0,))),
     # A charge from the volume before it is rounded would be another.
-    "of_a_half_volume": priced_sheet(VOLUMES["half_of_11"], lambda rng: rng.choice((5, 10, TOP_PRICE))),
+    "of_a_half_volume": priced_sheet(VOLUMES["half_of_11"], lambda rng: rng.choice((25, 1001, TOP_PRICE))),
     "highest_price": priced_sheet(with_factor(12, range(10)), lambda rng: TOP_PRICE),
     "largest": priced_sheet(largest_volume, lambda rng: TOP_PRICE),
     "no_price": priced_sheet(with_factor(11, range(10)), lambda rng: 0),

@@ -28,8 +28,8 @@ const
   EdgeCount = 3;
   Edges: array[1..EdgeCount] of QWord = (500, 1000, 2000);
 
-  { Tenths: the highest capacity figure times the highest factor. No sheet can give it,
-    since the peak would have to be past the highest capacity figure. }
+  { Tenths: the largest volume there is, of contract 83,329 and peak 100,000 with factor 1.5;
+    a larger contract would need a peak past the highest capacity figure for that factor. }
   LargestVolume = 124994;
 
 { ------------------------------------------------------- excess and factor }

@@ -11,7 +11,7 @@ from changing import Change
 from inputs import CHANGES, Given
 from printing import WEEKDAYS, party_cells, table_lines
 from records import CAPACITY, PRICE, SINGLE_BUYER, SINGLE_BUYER_WORDS, Header, Sheet
-from results import IN_FORCE, OF_2015, Edition, texts_of
+from results import OF_2021, OF_2015, Edition, texts_of
 
 # The columns of a table, with their units, by the keys of the figures.
 HEADS = {"volume": ("volume", "MW"), "volume_after_cut": ("after the cut", "MW"), "contract_volume": ("contract", "MW"),
@@ -20,7 +20,7 @@ HEADS = {"volume": ("volume", "MW"), "volume_after_cut": ("after the cut", "MW")
          "payment": ("payment", "tenge"), "charge": ("charge", "tenge")}
 REFUSAL_COLUMNS = ("refusal", "words", "byte", "field", *(key for kind in CHANGES for key in (kind.one, kind.many)))
 COLUMNS = {
-    IN_FORCE: ("month", "record", "row", "producer", "producer_name", "consumer", "consumer_name", "volume",
+    OF_2021: ("month", "record", "row", "producer", "producer_name", "consumer", "consumer_name", "volume",
                "contract_volume", "peak", "price", "volume_after_cut", "credit", "percent", "n", "actual_volume",
                "payment", "charge", *REFUSAL_COLUMNS),
     OF_2015: ("month", "text", "record", "consumer", "consumer_name", "contract_volume", "peak", "price", "factor",
@@ -50,7 +50,7 @@ class Answer(NamedTuple):
         return [in_utf8(each.name) for each in self.changes if isinstance(each, kind)]
 
     def heading(self):
-        """What tells a month from others for programs: its name, the text if it is not the one in force, its lists and
+        """What tells a month from others for programs: its name, the text if it is that of 2015, its lists and
         its records."""
         text = {"text": self.edition.year} if self.edition.year else {}
         return {"month": in_utf8(self.given.name), **text, **{kind.many: self.names_of(kind) for kind in CHANGES}}

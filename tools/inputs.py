@@ -10,7 +10,7 @@ from kinds import LISTS, MONTH_TEXT, MONTHS, RECORDS, kind_of
 from monthtext import Faults, read_month_text
 from names import NO_NAMES, Names
 from refusals import HANDED_OVER
-from results import IN_FORCE, OF_2015
+from results import OF_2021, OF_2015
 from transfers import GivenList
 
 MOST_READ = 2 ** 25     # bytes of a sheet, list or record that are looked at; no text packs into more
@@ -55,8 +55,8 @@ def read_given(path):
 
 
 def add_edition(command, words):
-    """The option for the text of 2015, in place of the one in force."""
-    command.add_argument("--text-2015", dest="edition", action="store_const", const=OF_2015, default=IN_FORCE,
+    """The option for the text of 2015, in place of that of 2021."""
+    command.add_argument("--text-2015", dest="edition", action="store_const", const=OF_2015, default=OF_2021,
                          help=words)
 
 

@@ -1,6 +1,6 @@
 """The result of a settlement: taken from the program's listing, laid out as bytes, listed, held against the sheet.
 
-A month is settled under the text of the order that is in force or, for old acts, under that of 2015.
+A month is settled under the text of 2021 or, for old acts, under that of 2015.
 """
 import re
 import struct
@@ -136,7 +136,7 @@ def faults_2015(consumer, given):
 class Edition(NamedTuple):
     """A text of the order, with the form of its result. The figures of a record are keys for programs with their units,
     in the order of result and listing; a result that has no such record has none."""
-    year: str               # of a text that is no longer in force, else ""
+    year: str               # named beside a result under the text of 2015, else ""
     rows: tuple
     consumers: tuple
     totals: tuple
@@ -151,7 +151,7 @@ class Edition(NamedTuple):
 
 
 CHARGE = "charge", PRICE
-IN_FORCE = Edition(
+OF_2021 = Edition(
     "", (("volume_after_cut", CAPACITY), ("actual_volume", CAPACITY), ("payment", PRICE)),
     (("credit", CAPACITY), ("percent", Z), ("n", Z), ("actual_volume", CAPACITY), CHARGE),
     (("paid", PRICE), ("charged", PRICE)), result_length, figures_of_result, result_of, impossible)
@@ -184,7 +184,7 @@ def refusal_of_listing(listing):
     return int(found.group(1)) if found else None
 
 
-def result_of_listing(listing, content, edition=IN_FORCE):
+def result_of_listing(listing, content, edition=OF_2021):
     """The bytes of the result that a listing prints, or None if it is no listing of this sheet. It has every figure
     without loss; the bytes, read back and listed again, are to give it letter by letter."""
     try:

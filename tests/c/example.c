@@ -43,14 +43,17 @@ static const struct settlement settlements[] = {
     {"example sheet under the text of 2015", capacity_settle_2015, expected_2015, sizeof expected_2015},
 };
 
-/* The first bytes of the sheet, settled into this room. The buffer has more bytes, so that a write past it is seen. */
+/*
+ * The last bytes of the sheet, settled into this room; of none the pointer leads to no byte that may be read. The
+ * buffer has more bytes, so that a write past it is seen.
+ */
 static void check_settled(const struct settlement *by, size_t sheet_length, size_t room, int64_t wanted)
 {
     uint8_t buffer[CAPACITY_LARGEST_RESULT + 1];
-    char what[80];
-    snprintf(what, sizeof what, "%s, room of %zu bytes", by->name, room);
+    char what[100];
+    snprintf(what, sizeof what, "%s, %zu bytes of it, room of %zu bytes", by->name, sheet_length, room);
     memset(buffer, UNTOUCHED, sizeof buffer);
-    expect_answer(what, by->settle(sheet, sheet_length, buffer, room), wanted);
+    expect_answer(what, by->settle(sheet + sizeof sheet - sheet_length, sheet_length, buffer, room), wanted);
     for (size_t i = 0; i < sizeof buffer; i++)
         expect_byte(what, buffer, i, (int64_t)i < wanted ? by->expected[i] : UNTOUCHED);
 }

@@ -23,11 +23,11 @@ CONSUMER_KEYS = ["consumer", "consumer_name", "contract_volume", "peak", "price"
 MONTH_KEYS = ["month", "text", "transfers", "complexes", "refusal", "consumers"]
 COLUMNS = ["month", "text", "record", *CONSUMER_KEYS, "refusal", "words", "byte", "field", "list", "transfers",
            "complex", "complexes"]
-# Of request 4: contract volume and peak, then factor and volume, in MW.
-PAPER = [("100.0", "0.0", "1.0", "100.0"), ("100.0", "105.0", "1.0", "100.0"), ("100.0", "105.1", "1.1", "110.0"),
-         ("100.0", "110.0", "1.1", "110.0"), ("100.0", "110.1", "1.2", "120.0"), ("100.0", "120.0", "1.2", "120.0"),
-         ("100.0", "120.1", "1.5", "150.0"), ("0.0", "0.0", "1.0", "0.0"), ("0.0", "0.1", "1.5", "0.0"),
-         ("0.5", "10000.0", "1.5", "0.8")]
+# Worked out by hand from request 4: contract volume and peak, then factor and volume, in MW.
+BY_HAND = [("100.0", "0.0", "1.0", "100.0"), ("100.0", "105.0", "1.0", "100.0"), ("100.0", "105.1", "1.1", "110.0"),
+           ("100.0", "110.0", "1.1", "110.0"), ("100.0", "110.1", "1.2", "120.0"), ("100.0", "120.0", "1.2", "120.0"),
+           ("100.0", "120.1", "1.5", "150.0"), ("0.0", "0.0", "1.0", "0.0"), ("0.0", "0.1", "1.5", "0.0"),
+           ("0.5", "10000.0", "1.5", "0.8")]
 
 
 def by_rival(path):
@@ -89,10 +89,10 @@ def test_paper(folder):
     """The edges of the request, from a text."""
     _, consumer = GOOD.split("[[consumer]]")
     consumers = ["[[consumer]]" + consumer.replace('"100.0"', f'"{contract}"').replace('"126.0"', f'"{peak}"')
-                 for contract, peak, *_ in PAPER]
+                 for contract, peak, *_ in BY_HAND]
     (folder / "month.toml").write_text(GOOD.split("[[consumer]]")[0] + "".join(consumers))
     found = [line.split()[1:3] for line in form("listing", folder / "month.toml").splitlines()]
-    check(found == [list(line[2:]) for line in PAPER], "--text-2015: the request's figures", str(found))
+    check(found == [list(line[2:]) for line in BY_HAND], "--text-2015: the figures worked out by hand", str(found))
 
 
 def test_figures():
@@ -182,7 +182,7 @@ def test_changes(folder):
 
 
 def test_refused():
-    """--explain and --strict: the number, the rule and the field are those of the text in force."""
+    """--explain and --strict: the number, the rule and the field are those of the text of 2021."""
     refused = [path.stem for path in sorted(EXAMPLES.glob("refused-*.sheet"))]
     for words in ([as_settled(name) for name in refused],
                   [*LISTS.words("refused-15.csv"), "month.sheet"], [*RECORDS.words("refused-17.complex"), "month.toml"],

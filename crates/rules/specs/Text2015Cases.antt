@@ -53,7 +53,7 @@ factorFigures =
     ∷ figure (factorFor 20000 22001) 12
     ∷ figure (factorFor 25000 30001) 12
     ∷ figure (factorFor 20000 24001) 15
-    -- no excess; 5.00 percent of the contract volume, not of 1.05 × it: 110.0 over 100.0 is 10.00 percent
+    -- no excess; 110.0 over 100.0 is 10.00 percent (over 1.05 × 100.0 it would be 5.00)
     ∷ figure (factorFor 1000 1000) 10
     ∷ figure (factorFor 1000 10) 10
     ∷ figure (factorFor 1000 1100) 11
@@ -81,7 +81,7 @@ volumeFigures =
     -- a contract of 0: 0 × 1.0 and 0 × 1.5
     ∷ figure (volumeFor 0 0) 0
     ∷ figure (volumeFor 0 1) 0
-    -- at the ceiling of a peak, 10,000.0: over 10,000.0 no excess; over 8,333.3, 16,667 / 83,333 = 20.0004 percent, × 1.2 = 9,999.96; over
+    -- at the ceiling of a peak, 10,000.0: over 10,000.0 no excess; over 8,333.3, 16,667 / 83,333 = 20.0005 percent, × 1.2 = 9,999.96; over
     -- 8,332.9, 16,671 / 83,329 = 20.0062 percent and so 20.01, × 1.5 = 12,499.35: no volume is larger
     ∷ figure (volumeFor 100000 100000) 100000
     ∷ figure (volumeFor 83333 100000) 100000

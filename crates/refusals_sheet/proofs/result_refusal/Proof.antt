@@ -1,6 +1,7 @@
 use mathlib.Core.Path.{_≡_, sym, _∙_}
 use Rattle.rules.specs.Refusals.{formTests, firstOf}
-use Rattle.refusals_sheet.proofs.Numbers.{form-whole, own-form, own-room, own-figures}
+use Rattle.laws.proofs.Refusals.{form-numbered}
+use Rattle.refusals_sheet.proofs.Numbers.{form-whole, form-stands, room-stands, figures-next, sheet-is}
 use borrow.Author.Needs.{needs}
 use Rattle.refusals_sheet.proofs.result_refusal.Statement.{statement}
 use Rattle.refusals_sheet.proofs.result_refusal.Tie as tie
@@ -15,7 +16,7 @@ form-refusal-requires c κs = search needs
 returns : tie.Need-returns
 returns c =
     let e = c .before .form-refusal .ensures in
-    e ∙ own-form _ _ _ (λ z. c .if1 .taken (e ∙ z))
+    e ∙ form-stands _ (form-numbered _) _ _ _ (sheet-is _ _ _) (λ z. c .if1 .taken (e ∙ z))
 
 room-refusal-requires : tie.Need-room-refusal-requires
 room-refusal-requires c κs = search needs
@@ -23,7 +24,7 @@ room-refusal-requires c κs = search needs
 returns-2 : tie.Need-returns-2
 returns-2 c =
     let e = c .before .room-refusal .ensures in
-    e ∙ own-room _ _ _ (form-none (c .before .before)) (λ z. c .if2 .taken (e ∙ z))
+    e ∙ room-stands _ (form-numbered _) _ _ _ (sheet-is _ _ _) (form-none (c .before .before)) (λ z. c .if2 .taken (e ∙ z))
 
 layout-requires : tie.Need-layout-requires
 layout-requires c κs = search needs
@@ -35,7 +36,7 @@ returns-3 : tie.Need-returns-3
 returns-3 c =
     let r = c .before .before in
     rw (c .figure-refusal .ensures, c .before .layout .ensures)
-    (own-figures _ _ _ (form-none (r .before .before)) (sym (r .before .room-refusal .ensures) ∙ r .if2 .left))
+    (figures-next _ (form-numbered _) _ _ _ (sheet-is _ _ _) (form-none (r .before .before)) (sym (r .before .room-refusal .ensures) ∙ r .if2 .left))
 
 pub result-refusal-spec : {M : Type 1} → statement M
 result-refusal-spec =
