@@ -47,6 +47,9 @@ type
 
 procedure ReadComplex(const Bytes: TByteSequence; out Complex: TComplex);
 
+{ The grounds of number 16. }
+function FaultsOfRecord(const Header: THeader; const Complex: TComplex): TRecordFaults;
+
 { A less B, or 0 where B is the larger: the paper's "not below 0". }
 function LessNotBelowNought(A, B: Int64): Int64;
 

@@ -1,5 +1,5 @@
 { Marks of industrial complexes: which corners of request 3 of document 02 a record
-  reaches on an accepted sheet. Nothing here changes a figure. }
+  reaches on an accepted sheet, or beside one refused by 18 of request 5. Nothing here changes a figure. }
 unit complexmarks;
 
 {$mode objfpc}{$H+}{$R+}{$Q+}
@@ -14,10 +14,13 @@ uses
 function ComplexMarksText(const Sheet: TSheet; const Complex: TComplex;
   const Outcome: TComplexOutcome): string;
 
+{ The marks of a record beside a sheet that is refused by 18. }
+function ComplexMarksBeside18(const Sheet: TSheet; const Complex: TComplex): string;
+
 implementation
 
 uses
-  refusals, controlhours, marks;
+  refusals, controlhours, marks, daymarks;
 
 const
   RecordFaultNames: array[TRecordFault] of string = ('short', 'length', 'days', 'consumer');
@@ -253,8 +256,18 @@ begin
   case Outcome.Refusal of
     16: AddMarksOf16(Result, Outcome);
     17: AddMarksOf17(Result, Sheet.Header, Complex, Outcome);
-    NotRefused: AddMarksOfDone(Result, Sheet, Complex, Outcome);
+    NotRefused:
+      begin
+        AddMarksOfDone(Result, Sheet, Complex, Outcome);
+        AddVersionOfDaysMark(Result, Sheet.Header);
+      end;
   end;
+end;
+
+function ComplexMarksBeside18(const Sheet: TSheet; const Complex: TComplex): string;
+begin
+  Result := RefusalMark(18);
+  if FaultsOfRecord(Sheet.Header, Complex) <> [] then AddMark(Result, '18with16');
 end;
 
 end.

@@ -27,7 +27,7 @@ const
   Edges: array[1..EdgeCount] of Int64 = (50, 51, 200, 201, 400, 401, 500, 501);
 
   TieNames: array[TRoundedFigure] of string = ('average', 'p', 'k1', 'k2', 'k4', 'k5',
-    'product', 'volume', 'payment', 'cvolume', 'charge');
+    'product', 'days', 'volume', 'payment', 'cvolume', 'charge');
 
 function NumberText(Value: Int64): string;
 begin

@@ -14,14 +14,14 @@ uses
 function MarksText2015(const Sheet: TSheet; const Settlement: TSettlement;
   const Figures: TSettlement2015; BufferLength: Int64): string;
 
-{ The marks of a refusal: `N` and the number, and for 7 how near the buffer came. }
-function RefusalMarks2015(const Header: THeader; Refusal: Integer;
+{ The marks of a refusal: those of daymarks.pas, and for 7 how near the buffer came. }
+function RefusalMarks2015(const Sheet: TSheet; Refusal: Integer;
   BufferLength: Int64): string;
 
 implementation
 
 uses
-  refusals, results, marks;
+  refusals, results, marks, daymarks;
 
 const
   { Where a factor ends, in hundredths of a percent. }
@@ -153,13 +153,14 @@ begin
       Figures[Number]);
   AddCountMark(Result, Sheet.Header.ConsumerCount);
   AddRoomMarks(Result, Sheet.Header, BufferLength);
+  AddVersionOfDaysMark(Result, Sheet.Header);
 end;
 
-function RefusalMarks2015(const Header: THeader; Refusal: Integer;
+function RefusalMarks2015(const Sheet: TSheet; Refusal: Integer;
   BufferLength: Int64): string;
 begin
-  Result := RefusalMark(Refusal);
-  if (Refusal = 7) and (BufferLength = ResultLength2015(Header) - 1) then
+  Result := RefusalMarksText(Sheet, Refusal);
+  if (Refusal = 7) and (BufferLength = ResultLength2015(Sheet.Header) - 1) then
     AddMark(Result, '7oneless');
 end;
 

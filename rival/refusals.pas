@@ -1,5 +1,6 @@
 { When a sheet is turned down: the numbers 1 to 12 of document 01's section of
-  that name. Each number is tried over the whole sheet before the next. }
+  that name, and 18 of request 5 of document 02, which is tried after 12. Each number
+  is tried over the whole sheet before the next. }
 unit refusals;
 
 {$mode objfpc}{$H+}{$R+}{$Q+}
@@ -18,15 +19,19 @@ const
 { Numbers 1 to 6, which need the header and the count of bytes handed over. }
 function RefusalByHeader(const Header: THeader; BytesHandedOver: Int64): Integer;
 
-{ Numbers 7 to 12, for a sheet that passed 1 to 6 and has been read whole. }
+{ Numbers 7 to 12 and 18, for a sheet that passed 1 to 6 and has been read whole. }
 function RefusalByBody(const Sheet: TSheet; BufferLength: Int64): Integer;
 
 { The same under the 2015 text, request 4 of document 02: number 7 asks for the size of
   that text's own result. }
 function RefusalByBody2015(const Sheet: TSheet; BufferLength: Int64): Integer;
 
-{ The same without 7, for an entry that has no result buffer: numbers 8 to 12. }
+{ The same without 7, for an entry that has no result buffer: numbers 8 to 12 and 18. }
 function RefusalByFigures(const Sheet: TSheet): Integer;
+
+{ Number 18, of one row and of the whole sheet. }
+function DaysAreWrong(const Row: TRow; DaysInMonth: Integer): Boolean;
+function SomeDaysAreWrong(const Sheet: TSheet): Boolean;
 
 implementation
 
@@ -34,7 +39,6 @@ uses
   results, texts2015;
 
 const
-  TheVersion = 1;
   FewestDays = 28;
   TopCoefficient = 1000000;
   TopZ = 100;
@@ -61,7 +65,7 @@ function RefusalByHeader(const Header: THeader; BytesHandedOver: Int64): Integer
 begin
   if BytesHandedOver < HeaderWidth then Exit(1);
   if Header.SheetLength <> BytesHandedOver then Exit(2);
-  if Header.Version <> TheVersion then Exit(3);
+  if not (Header.Version in [VersionOfMonths, VersionOfDays]) then Exit(3);
   if MonthIsWrong(Header) then Exit(4);
   if CountsAreWrong(Header) then Exit(5);
   if Header.SheetLength <> LengthAskedFor(Header) then Exit(6);
@@ -167,6 +171,23 @@ begin
   Result := False;
 end;
 
+{ Number 18. A row of version 1 covers the month, so its days are never wrong. }
+function DaysAreWrong(const Row: TRow; DaysInMonth: Integer): Boolean;
+begin
+  Result := (Row.FirstDay = 0)
+    or (Row.LastDay < Row.FirstDay)
+    or (Row.LastDay > DaysInMonth);
+end;
+
+function SomeDaysAreWrong(const Sheet: TSheet): Boolean;
+var
+  Number: Integer;
+begin
+  for Number := 0 to Sheet.Header.RowCount - 1 do
+    if DaysAreWrong(Sheet.Rows[Number], Sheet.Header.Days) then Exit(True);
+  Result := False;
+end;
+
 function RefusalByFigures(const Sheet: TSheet): Integer;
 begin
   if CountsOrCoefficientsTooHigh(Sheet) then Exit(8);
@@ -174,6 +195,7 @@ begin
   if SomeReferenceIsWrong(Sheet) then Exit(10);
   if SomePriceTooHigh(Sheet) then Exit(11);
   if SomeMiningDaysOrZWrong(Sheet) then Exit(12);
+  if SomeDaysAreWrong(Sheet) then Exit(18);
   Result := NotRefused;
 end;
 

@@ -1,4 +1,4 @@
-{ The rival: a second reading of document 01 and of requests 1, 3 and 4 of document 02,
+{ The rival: a second reading of document 01 and of requests 1, 3, 4 and 5 of document 02,
   to compare a proved program with. See README.md for its commands. }
 program rival;
 
@@ -6,7 +6,7 @@ program rival;
 
 uses
   SysUtils, sheets, refusals, settlements, results, transfers, complexes, texts2015,
-  listings, traces, marks, transfermarks, complexmarks, marks2015, bytefiles;
+  listings, traces, marks, daymarks, transfermarks, complexmarks, marks2015, bytefiles;
 
 const
   MostBytesListed = 65536;    { section Listing: what is handed over of a longer input }
@@ -62,7 +62,7 @@ begin
 end;
 
 { The sheet's own numbers where it is to be changed: there is no result buffer, so
-  they are 1 to 12 save 7. }
+  they are 1 to 12 save 7, and 18. }
 function RefusalOfSheet(const Bytes: TByteSequence): Integer;
 begin
   Result := ReadSheet(Bytes);
@@ -80,9 +80,9 @@ type
 function ChangeByTransfers(const Bytes, SecondBytes: TByteSequence;
   out Changed: TByteSequence): Integer;
 begin
+  ReadTransferList(SecondBytes, List); { the marks of 18 look at the list too }
   Result := RefusalOfSheet(Bytes);
   if Result <> NotRefused then Exit;
-  ReadTransferList(SecondBytes, List);
   ApplyTransfers(Sheet, List, Transferred);
   Changed := SheetBytesAfter(Bytes, Sheet.Header, Transferred);
   Result := Transferred.Refusal;
@@ -92,9 +92,9 @@ end;
 function ChangeByAverage(const Bytes, SecondBytes: TByteSequence;
   out Changed: TByteSequence): Integer;
 begin
+  ReadComplex(SecondBytes, Complex); { the marks of 18 look at the record too }
   Result := RefusalOfSheet(Bytes);
   if Result <> NotRefused then Exit;
-  ReadComplex(SecondBytes, Complex);
   TakePeak(Sheet.Header, Complex, Averaged);
   Changed := SheetBytesWithPeak(Bytes, Sheet.Header, Complex, Averaged);
   Result := Averaged.Refusal;
@@ -275,16 +275,16 @@ end;
 function SheetMarks(Refusal: Integer): string;
 begin
   if Refusal <> NotRefused then
-    Result := RefusalMark(Refusal)
-  else
-    Result := MarksText(Sheet, Settlement);
+    Exit(RefusalMarksText(Sheet, Refusal));
+  Result := MarksText(Sheet, Settlement);
+  AddDayMarks(Result, Sheet, Settlement);
 end;
 
 { Document 01's settlement is taken too, for what the two texts see differently. }
 function SheetMarks2015(Refusal: Integer): string;
 begin
   if Refusal <> NotRefused then
-    Exit(RefusalMarks2015(Sheet.Header, Refusal, BufferOfCase));
+    Exit(RefusalMarks2015(Sheet, Refusal, BufferOfCase));
   Settle(Sheet, Settlement);
   Result := MarksText2015(Sheet, Settlement, Settlement2015, BufferOfCase);
 end;
@@ -293,6 +293,8 @@ function TransferMarks(Refusal: Integer): string;
 begin
   if Refusal in ListNumbers + [NotRefused] then
     Result := TransferMarksText(Sheet, List, Transferred)
+  else if Refusal = 18 then
+    Result := TransferMarksBeside18(Sheet, List)
   else
     Result := RefusalMark(Refusal);
 end;
@@ -301,6 +303,8 @@ function AverageMarks(Refusal: Integer): string;
 begin
   if Refusal in RecordNumbers + [NotRefused] then
     Result := ComplexMarksText(Sheet, Complex, Averaged)
+  else if Refusal = 18 then
+    Result := ComplexMarksBeside18(Sheet, Complex)
   else
     Result := RefusalMark(Refusal);
 end;

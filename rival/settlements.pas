@@ -17,11 +17,16 @@ interface
 uses
   exact, sheets;
 
+const
+  Million = 1000000;           { 1 as a coefficient; also millionths in a megawatt }
+  MillionthsInTenth = 100000;
+
 type
-  { Each figure that document 01 has rounded. The set of ties tells which of
-    them lay exactly on a half somewhere in the sheet; no figure depends on it. }
+  { Each figure that document 01 or request 5 of document 02 has rounded. The set of ties
+    tells which of them lay exactly on a half somewhere in the sheet; no figure depends
+    on it. }
   TRoundedFigure = (figAverage, figP, figK1, figK2, figK4, figK5,
-    figProduct, figVolume, figPayment, figConsumerVolume, figCharge);
+    figProduct, figDays, figVolume, figPayment, figConsumerVolume, figCharge);
   TTies = set of TRoundedFigure;
 
   TBandNumber = 0..4;
@@ -48,6 +53,7 @@ type
   TRowFigures = record
     VolumeAfterCut: Int64; { tenths }
     Products: TCoefficients; { the running product after k1, k2 ... k10, millionths }
+    ForDaysCovered: Int64; { the last product's share for the days covered, millionths }
     ActualVolume: Int64;   { tenths }
     Payment: QWord;        { tiyn }
   end;
@@ -72,8 +78,15 @@ type
     Ties: TTies;
   end;
 
-{ The sheet has passed all twelve refusals. }
+{ The sheet has passed all its refusals. }
 procedure Settle(const Sheet: TSheet; out Settlement: TSettlement);
+
+{ Parts of it, for marks that ask what other figures would have given: the producers'
+  figures with their rows' volumes after the cut, and the cut of one producer's rows
+  alone. }
+procedure SettleProducers(const Sheet: TSheet; var Settlement: TSettlement);
+procedure CutRows(const Sheet: TSheet; ProducerNumber: Integer; Excess: Int64;
+  var Settlement: TSettlement);
 
 implementation
 
@@ -87,8 +100,6 @@ type
   end;
 
 const
-  Million = 1000000;           { 1 as a coefficient; also millionths in a megawatt }
-  MillionthsInTenth = 100000;
   TenthsInMegawatt = 10;
 
   BandTable: array[TBandNumber] of TBand = (
@@ -291,8 +302,10 @@ end;
 
 { -------------------------------------------------------------------- rows }
 
-{ Section Rows: one rounding after each coefficient, one more to the tenth. }
-procedure SettleRow(const Row: TRow; const K: TCoefficients;
+{ Section Rows: one rounding after each coefficient, one after the share of the days
+  covered (request 5 of document 02), one more to the tenth. The share of a row that
+  covers the month is 1 and changes nothing. }
+procedure SettleRow(const Row: TRow; const K: TCoefficients; DaysInMonth: Integer;
   var Figures: TRowFigures; var Ties: TTies);
 var
   Number: Integer;
@@ -304,8 +317,10 @@ begin
     Running := Rounded(figProduct, Whole(Running) * Part(K[Number], Million), Ties);
     Figures.Products[Number] := Running;
   end;
+  Figures.ForDaysCovered := Rounded(figDays,
+    Whole(Running) * Part(DaysCovered(Row), DaysInMonth), Ties);
   Figures.ActualVolume := Rounded(figVolume,
-    Whole(Running) / Whole(MillionthsInTenth), Ties);
+    Whole(Figures.ForDaysCovered) / Whole(MillionthsInTenth), Ties);
   { The price is for a whole megawatt, the volume stands in tenths. }
   Figures.Payment := Rounded(figPayment,
     Part(Figures.ActualVolume, TenthsInMegawatt) * Whole(Row.Price), Ties);
@@ -348,16 +363,12 @@ end;
 
 { ------------------------------------------------------------- whole sheet }
 
-procedure Settle(const Sheet: TSheet; out Settlement: TSettlement);
+procedure SettleProducers(const Sheet: TSheet; var Settlement: TSettlement);
 var
   Number: Integer;
   H: Int64;
 begin
-  Settlement.Ties := [];
-  Settlement.TotalPaid := 0;
-  Settlement.TotalCharged := 0;
   H := HoursInMonth(Sheet.Header);
-
   for Number := 0 to Sheet.Header.ProducerCount - 1 do
   begin
     TakeSums(Sheet, Number, Settlement.Producers[Number]);
@@ -370,6 +381,17 @@ begin
     TakeK5(Sheet.Producers[Number], H, Settlement.Producers[Number], Settlement.Ties);
     TakeGivenCoefficients(Sheet.Producers[Number], Settlement.Producers[Number]);
   end;
+end;
+
+procedure Settle(const Sheet: TSheet; out Settlement: TSettlement);
+var
+  Number: Integer;
+begin
+  Settlement.Ties := [];
+  Settlement.TotalPaid := 0;
+  Settlement.TotalCharged := 0;
+
+  SettleProducers(Sheet, Settlement);
 
   for Number := 0 to Sheet.Header.ConsumerCount - 1 do
     Settlement.Consumers[Number].Credit := 0;
@@ -377,7 +399,7 @@ begin
   for Number := 0 to Sheet.Header.RowCount - 1 do
     with Sheet.Rows[Number] do
     begin
-      SettleRow(Sheet.Rows[Number], Settlement.Producers[Producer].K,
+      SettleRow(Sheet.Rows[Number], Settlement.Producers[Producer].K, Sheet.Header.Days,
         Settlement.Rows[Number], Settlement.Ties);
       if not IsSupportRow(Sheet.Rows[Number]) then
         Settlement.Consumers[Consumer].Credit := Settlement.Consumers[Consumer].Credit

@@ -1,5 +1,6 @@
 { The month's sheet as records, and the reading of its bytes.
-  Field widths and their order follow document 01, "Units and the sheet". }
+  Field widths and their order follow document 01, "Units and the sheet"; the days of a
+  row in sheet version 2 are request 5 of document 02. }
 unit sheets;
 
 {$mode objfpc}{$H+}{$R+}{$Q+}
@@ -8,6 +9,9 @@ interface
 
 const
   HeaderWidth = 14;
+
+  VersionOfMonths = 1; { every row covers the month }
+  VersionOfDays = 2;   { each row states its first and last day }
 
   MostProducers = 6;
   MostRows = 32;
@@ -53,6 +57,8 @@ type
     Consumer: Byte;   { or the single buyer }
     Volume: LongWord; { tenths of a megawatt }
     Price: LongWord;  { tiyn per megawatt and month }
+    FirstDay: Byte;   { from 1; in version 1 the row covers the month }
+    LastDay: Byte;
   end;
 
   TConsumer = record
@@ -74,13 +80,16 @@ type
 { Hours in the month, H in the paper. }
 function HoursInMonth(const Header: THeader): Int64;
 
-{ The length that the header's counts and days ask for. }
+{ The length that the header's version, counts and days ask for. }
 function LengthAskedFor(const Header: THeader): Int64;
 
 { Where a consumer's record begins. The consumers stand last in the sheet. }
 function ConsumerPlace(const Header: THeader; Number: Integer): Int64;
 
 function IsSupportRow(const Row: TRow): Boolean;
+
+{ From the first day to the last, both counted, for a row whose days are right. }
+function DaysCovered(const Row: TRow): Int64;
 
 { The readers take a field, highest byte first, and move the place on. }
 function NextOne(const Bytes: TByteSequence; var Place: Integer): Byte;
@@ -100,6 +109,7 @@ const
   ProducerWidth = 42; { without the hours }
   HourWidth = 12;     { three powers of four bytes; 24 of them make 288 a day }
   RowWidth = 10;
+  RowWidthOfDays = 12; { in version 2: two days of one byte after the price }
   ConsumerWidth = 15;
 
   SingleBuyer = 255; { the consumer number of a support row }
@@ -109,11 +119,16 @@ begin
   Result := HoursInDay * Int64(Header.Days);
 end;
 
+function RowWidthIn(const Header: THeader): Int64;
+begin
+  if Header.Version = VersionOfDays then Result := RowWidthOfDays else Result := RowWidth;
+end;
+
 function LengthAskedFor(const Header: THeader): Int64;
 begin
   Result := HeaderWidth
     + Int64(Header.ProducerCount) * (ProducerWidth + HourWidth * HoursInMonth(Header))
-    + RowWidth * Int64(Header.RowCount)
+    + RowWidthIn(Header) * Header.RowCount
     + ConsumerWidth * Int64(Header.ConsumerCount);
 end;
 
@@ -125,6 +140,11 @@ end;
 function IsSupportRow(const Row: TRow): Boolean;
 begin
   Result := Row.Consumer = SingleBuyer;
+end;
+
+function DaysCovered(const Row: TRow): Int64;
+begin
+  Result := Int64(Row.LastDay) - Row.FirstDay + 1;
 end;
 
 function NextOne(const Bytes: TByteSequence; var Place: Integer): Byte;
@@ -190,12 +210,23 @@ begin
   end;
 end;
 
-procedure ReadRow(const Bytes: TByteSequence; var Place: Integer; var Row: TRow);
+procedure ReadRow(const Bytes: TByteSequence; var Place: Integer; const Header: THeader;
+  var Row: TRow);
 begin
   Row.Producer := NextOne(Bytes, Place);
   Row.Consumer := NextOne(Bytes, Place);
   Row.Volume := NextFour(Bytes, Place);
   Row.Price := NextFour(Bytes, Place);
+  if Header.Version = VersionOfDays then
+  begin
+    Row.FirstDay := NextOne(Bytes, Place);
+    Row.LastDay := NextOne(Bytes, Place);
+  end
+  else
+  begin
+    Row.FirstDay := 1;
+    Row.LastDay := Header.Days;
+  end;
 end;
 
 procedure ReadConsumer(const Bytes: TByteSequence; var Place: Integer;
@@ -217,7 +248,7 @@ begin
   for Number := 0 to Sheet.Header.ProducerCount - 1 do
     ReadProducer(Bytes, Place, HoursInMonth(Sheet.Header), Sheet.Producers[Number]);
   for Number := 0 to Sheet.Header.RowCount - 1 do
-    ReadRow(Bytes, Place, Sheet.Rows[Number]);
+    ReadRow(Bytes, Place, Sheet.Header, Sheet.Rows[Number]);
   for Number := 0 to Sheet.Header.ConsumerCount - 1 do
     ReadConsumer(Bytes, Place, Sheet.Consumers[Number]);
 end;

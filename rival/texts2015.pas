@@ -34,7 +34,7 @@ type
 { The factor of a contract volume and a peak, in tenths. }
 function FactorOf(ContractVolume, Peak: Int64): Int64;
 
-{ The sheet has passed all twelve refusals. }
+{ The sheet has passed all its refusals. }
 procedure Settle2015(const Sheet: TSheet; out Settlement: TSettlement2015);
 
 { The result's length, known from the header alone. }

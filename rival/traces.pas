@@ -1,5 +1,5 @@
 { The figures between the sheet and the result, set out for a person who checks
-  them by hand. Not part of document 01; the letters are those of the paper. }
+  them by hand. Not part of the papers; the letters are those of document 01. }
 unit traces;
 
 {$mode objfpc}{$H+}{$R+}{$Q+}
@@ -60,7 +60,7 @@ begin
 end;
 
 procedure WriteRow(var Paper: Text; Number: Integer; const Row: TRow;
-  const Figures: TRowFigures);
+  DaysInMonth: Integer; const Figures: TRowFigures);
 var
   Factor: Integer;
 begin
@@ -75,6 +75,9 @@ begin
   for Factor := 1 to 10 do
     Write(Paper, ' k', Factor, ' ', MillionthsText(Figures.Products[Factor]));
   WriteLn(Paper);
+  WriteLn(Paper, '  days ', Row.FirstDay, ' to ', Row.LastDay, ', covered ',
+    DaysCovered(Row), ' of ', DaysInMonth, ', product for them ',
+    MillionthsText(Figures.ForDaysCovered));
   WriteLn(Paper, '  actual volume ', TenthsText(Figures.ActualVolume),
     ', payment ', TengeText(Figures.Payment));
 end;
@@ -96,12 +99,13 @@ procedure WriteTrace(var Paper: Text; const Sheet: TSheet; const Settlement: TSe
 var
   Number: Integer;
 begin
-  WriteLn(Paper, 'Month: days ', Sheet.Header.Days, ', first weekday ',
+  WriteLn(Paper, 'Month: version ', Sheet.Header.Version, ', days ', Sheet.Header.Days, ', first weekday ',
     Sheet.Header.FirstWeekday, ', H ', HoursInMonth(Sheet.Header));
   for Number := 0 to Sheet.Header.ProducerCount - 1 do
     WriteProducer(Paper, Number, Settlement.Producers[Number]);
   for Number := 0 to Sheet.Header.RowCount - 1 do
-    WriteRow(Paper, Number, Sheet.Rows[Number], Settlement.Rows[Number]);
+    WriteRow(Paper, Number, Sheet.Rows[Number], Sheet.Header.Days,
+      Settlement.Rows[Number]);
   for Number := 0 to Sheet.Header.ConsumerCount - 1 do
     WriteConsumer(Paper, Number, Sheet.Consumers[Number], Settlement.Consumers[Number]);
   WriteLn(Paper, 'Total paid ', TengeText(Settlement.TotalPaid),

@@ -1,5 +1,5 @@
 { Marks of transfers: which corners of request 1 of document 02 a list reaches on an
-  accepted sheet. Nothing here changes a figure. }
+  accepted sheet, or beside one refused by 18 of request 5. Nothing here changes a figure. }
 unit transfermarks;
 
 {$mode objfpc}{$H+}{$R+}{$Q+}
@@ -14,10 +14,13 @@ uses
 function TransferMarksText(const Sheet: TSheet; const List: TTransferList;
   const Outcome: TTransferOutcome): string;
 
+{ The marks of a list beside a sheet that is refused by 18. }
+function TransferMarksBeside18(const Sheet: TSheet; const List: TTransferList): string;
+
 implementation
 
 uses
-  refusals, marks;
+  refusals, marks, daymarks;
 
 const
   ListFaultNames: array[TListFault] of string = ('short', 'length', 'multiple', 'version',
@@ -135,8 +138,18 @@ begin
     13: AddMarksOf13(Result, List, Outcome.ListFaults);
     14: AddMarksOf14(Result, List);
     15: AddMarksOf15(Result, List.Entries[Outcome.Applied], VolumesIn(Sheet), Outcome);
-    NotRefused: AddMarksOfDone(Result, List, VolumesIn(Sheet));
+    NotRefused:
+      begin
+        AddMarksOfDone(Result, List, VolumesIn(Sheet));
+        AddVersionOfDaysMark(Result, Sheet.Header);
+      end;
   end;
+end;
+
+function TransferMarksBeside18(const Sheet: TSheet; const List: TTransferList): string;
+begin
+  Result := RefusalMark(18);
+  if FaultsOfList(List, Sheet.Header.ConsumerCount) <> [] then AddMark(Result, '18with13');
 end;
 
 end.

@@ -54,6 +54,9 @@ procedure ReadTransferList(const Bytes: TByteSequence; out List: TTransferList);
 { The contract volumes as the sheet gives them. }
 function VolumesIn(const Sheet: TSheet): TVolumes;
 
+{ The grounds of number 13, for a sheet with so many consumers. }
+function FaultsOfList(const List: TTransferList; ConsumerCount: Integer): TListFaults;
+
 { Filed too late, number 14. }
 function FiledLate(const Entry: TEntry): Boolean;
 

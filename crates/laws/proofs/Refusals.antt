@@ -19,7 +19,7 @@ use Rattle.rules.specs.Month.{Producer, Month, hours}
 use Rattle.rules.specs.declared.Layout.{Layout}
 use Rattle.rules.specs.Sheet.{headerOf, layoutOf, monthOf, hoursWidth, hoursAt}
 use Rattle.rules.specs.Result.{resultLength}
-use Rattle.rules.specs.Refusals.{oneOf, badMonth, tooMany, badShare, tooHigh, highHour, highProducer, highRow, highConsumer, badReference, tooDear, badFactor, Test, frontTests, headerTests, formTests, roomTests, figureTests, sheetTests, testsFor, tests, applies, firstOf, refusal}
+use Rattle.rules.specs.Refusals.{oneOf, badVersion, badMonth, tooMany, badShare, tooHigh, highHour, highProducer, highRow, highConsumer, badReference, tooDear, badFactor, badDays, Test, frontTests, headerTests, formTests, roomTests, figureTests, sheetTests, testsFor, tests, applies, firstOf, refusal}
 use Rattle.rules.specs.Limits.{HeaderLimits, ProducerLimits, RowLimits, ConsumerLimits, MonthLimits, FormLimits, LimitsFor, SheetLimits}
 use Rattle.rules.specs.Outcome.{Accepted, hoursStretch}
 use Rattle.laws.proofs.Sheet.{hours-inside}
@@ -220,15 +220,19 @@ module _ (h : Header) where
       hour : (i : ℕ) → i < hours h → highHour p i ≡ false
       hour i q = unfold highHour in all-fail _ (clear-high _ (l .working i q), (clear-high _ (l .possible i q), (clear-high _ (l .outsideUse i q), tt)))
 
-  row-limits : (r : Row) → highRow r ≡ false → badReference h r ≡ false → tooDear (r .price) ≡ false → RowLimits h r
-  unfolding highRow badReference
-  row-limits r e9 e10 e11 =
+  row-limits : (r : Row) → highRow r ≡ false → badReference h r ≡ false → tooDear (r .price) ≡ false → badDays h r ≡ false → RowLimits h r
+  unfolding highRow badReference badDays
+  row-limits r e9 e10 e11 e18 =
       let b = none-of _ e10 in
+      let d = none-of _ e18 in
       record {
         volume = high-clear _ e9;
         producer = leb-false _ _ (b .0);
         consumer = λ n. leb-false _ _ (rw (ne-eqb _ _ n) at (b .1 .0));
         price = dear-clear _ e11;
+        first-from = ltb-false _ _ (d .0);
+        last-from = ltb-false _ _ (d .1 .0);
+        last-to = ltb-false _ _ (d .1 .1 .0);
       }
 
   row-clear : (r : Row) → RowLimits h r → highRow r ≡ false
@@ -242,6 +246,10 @@ module _ (h : Header) where
       go : (b : Bool) → eqb (r .consumer) 255 ≡ b → (not b && leb (h .consumers) (r .consumer)) ≡ false
       go true e = refl
       go false e = lt-leb _ _ (l .consumer (eqb-false _ _ e))
+
+  days-clear : (r : Row) → RowLimits h r → badDays h r ≡ false
+  unfolding badDays
+  days-clear r l = all-fail _ (le-ltb _ _ (l .first-from), (le-ltb _ _ (l .last-from), (le-ltb _ _ (l .last-to), tt)))
 
   pub consumer-limits : (c : Consumer) → highConsumer c ≡ false → tooDear (c .price) ≡ false → badFactor h c ≡ false → ConsumerLimits h c
   unfolding highConsumer badFactor
@@ -290,32 +298,34 @@ form-numbered s = tt
 -- Numbers 1 to 6, from their tests and back.
 module _ (s : List ℕ) where
   pub form-limits : firstOf (formTests s) ≡ 0 → FormLimits s
-  unfolding frontTests headerTests formTests applies
+  unfolding frontTests headerTests formTests applies badVersion
   form-limits e =
       let c : (n : ℕ) → applies n (formTests s) ≡ false = none-applies (formTests s) tt e in
+      let c3 = none-of _ (c 3) in
       record {
         whole-header = ltb-false _ _ (c 1);
         length-told = eqb-true _ _ (not-true _ (c 2));
-        version-1 = eqb-true _ _ (not-true _ (c 3));
+        version-from = ltb-false _ _ (c3 .0);
+        version-to = ltb-false _ _ (c3 .1 .0);
         header = header-limits (headerOf s) (c 4) (c 5);
         length-right = eqb-true _ _ (not-true _ (c 6));
       }
 
   form-clear : FormLimits s → firstOf (formTests s) ≡ 0
-  unfolding frontTests headerTests formTests
+  unfolding frontTests headerTests formTests badVersion
   form-clear l =
       all-clear _ (
         le-ltb _ _ (l .whole-header),
         (
           differs-not _ _ (l .length-told),
           (
-            differs-not _ _ (l .version-1),
+            all-fail _ (le-ltb _ _ (l .version-from), (le-ltb _ _ (l .version-to), tt)),
             (month-clear _ (l .header), (counts-clear _ (l .header), (differs-not _ _ (l .length-right), tt))),
           ),
         ),
       )
 
--- Numbers 8 to 12, from their tests and back.
+-- Numbers 8 to 12 and 18, from their tests and back.
 module _ (m : Month) where
   pub month-limits : HeaderLimits (m .header) → firstOf (figureTests m) ≡ 0 → MonthLimits m
   unfolding figureTests applies
@@ -326,7 +336,7 @@ module _ (m : Month) where
       record {
         header = w;
         producer = λ p l. producer-limits _ _ (any-clear _ _ (c 8) p l) (any-clear _ _ (c9 .0) p l);
-        row = λ j l. row-limits _ _ (any-clear _ _ (c9 .1 .0) j l) (any-clear _ _ (c 10) j l) (any-clear _ _ (c11 .0) j l);
+        row = λ j l. row-limits _ _ (any-clear _ _ (c9 .1 .0) j l) (any-clear _ _ (c 10) j l) (any-clear _ _ (c11 .0) j l) (any-clear _ _ (c 18) j l);
         consumer = λ k l. consumer-limits _ _ (any-clear _ _ (c9 .1 .1 .0) k l) (any-clear _ _ (c11 .1 .0) k l) (any-clear _ _ (c 12) k l);
       }
 
@@ -345,7 +355,7 @@ module _ (m : Month) where
             (
               all-fail _
                   (any-none _ _ (λ j l. clear-dear _ (w .row j l .price)), (any-none _ _ (λ k l. clear-dear _ (w .consumer k l .price)), tt)),
-              (any-none _ _ (λ k l. factor-clear _ _ (w .consumer k l)), tt),
+              (any-none _ _ (λ k l. factor-clear _ _ (w .consumer k l)), (any-none _ _ (λ j l. days-clear _ _ (w .row j l)), tt)),
             ),
           ),
         ),

@@ -1,16 +1,57 @@
--- The sheet's length, and where a producer's hours stand in it. Assumes nothing.
-use mathlib.Core.Path.{_≡_}
+-- The sheet's length, where a producer's hours stand in it, and records that are read alike from the same bytes. Assumes nothing.
+use mathlib.Core.Path.{_≡_, refl, sym, ap, _∙_}
+use mathlib.Core.Bool.{Bool, true, false, cond}
+use mathlib.Core.List.{List}
 use Prim.Native.Nat.{ℕ, _+_, _*_, _≤_, _<_}
-use native.Mathlib.Nat.{mul-le-mul, mul-le-mul-right}
+use native.Mathlib.Nat.{add-zero, add-assoc, mul-le-mul, mul-le-mul-left, mul-le-mul-right}
 use native.Mathlib.Omega.{arith}
+use borrow.Author.Tests.{le-ltb, lt-ltb}
+use lib.ListN.{getD}
 use Rattle.rules.specs.declared.Layout.{Layout}
-use Rattle.rules.specs.Sheet.{hoursWidth, rowWidth, consumerWidth, producerAt, hoursAt, rowAt, consumerAt, sheetLength}
+use Rattle.rules.specs.Fields.{bigEndian}
+use Rattle.rules.specs.Sheet.{statedWidth, hoursWidth, statesDays, rowWidth, consumerWidth, producerAt, hoursAt, rowAt, consumerAt, sheetLength, statedOf, dayAt, rowOf, consumerOf}
+use Rattle.laws.proofs.Fields.{same-bytes}
+
+-- The width of a row: 10 in version 1, from version 2 on 12.
+pub row-width-1 : (l : Layout) → l .version ≤ 1 → rowWidth l ≡ 10
+unfolding rowWidth statesDays
+row-width-1 l v = rw (le-ltb 1 (l .version) v)
+
+pub row-width-2 : (l : Layout) → 1 < l .version → rowWidth l ≡ 12
+unfolding rowWidth statesDays
+row-width-2 l v = rw (lt-ltb 1 (l .version) v)
+
+pub states-width : (l : Layout) → statesDays l ≡ true → rowWidth l ≡ 12
+unfolding rowWidth
+states-width l e = rw e
+
+-- In every version.
+pub row-width-le : (l : Layout) → rowWidth l ≤ 12
+unfolding rowWidth
+row-width-le l = go (statesDays l)
+  where
+    go : (b : Bool) → cond b 12 10 ≤ 12
+    go true = omega arith
+    go false = omega arith
+
+pub row-width-from : (l : Layout) → 10 ≤ rowWidth l
+unfolding rowWidth
+row-width-from l = go (statesDays l)
+  where
+    go : (b : Bool) → 10 ≤ cond b 12 10
+    go true = omega arith
+    go false = omega arith
 
 -- Number 6's length, in document 01's words.
 pub sheet-length : (l : Layout)
-    → sheetLength l ≡ 14 + l .header .producers * (42 + 288 * l .header .days) + 10 * l .header .rows + 15 * l .header .consumers
+    → sheetLength l ≡ 14 + l .header .producers * (42 + 288 * l .header .days) + rowWidth l * l .header .rows + 15 * l .header .consumers
 unfolding sheetLength consumerAt rowAt producerAt
 sheet-length l = omega arith
+
+-- Rows before the count end where the consumers begin.
+pub rows-end : (l : Layout) (j : ℕ) → j < l .header .rows → rowAt l j + rowWidth l ≤ consumerAt l 0
+unfolding consumerAt rowAt
+rows-end l j b = omega (arith, mul-le-mul-left (rowWidth l) b)
 
 -- The hours of a producer below P end within the sheet.
 pub hours-inside : (l : Layout) (p : ℕ) → p < l .header .producers → hoursAt l p + hoursWidth (l .header) ≤ sheetLength l
@@ -19,8 +60,8 @@ hours-inside l p b = omega (arith, mul-le-mul-right (42 + 288 * l .header .days)
 
 -- So do a row below R and a consumer below C.
 pub row-inside : (l : Layout) (j : ℕ) → j < l .header .rows → rowAt l j + rowWidth l ≤ sheetLength l
-unfolding sheetLength consumerAt rowAt
-row-inside l j b = omega arith
+unfolding sheetLength consumerAt
+row-inside l j b = unfold consumerAt in omega (arith, rows-end l j b)
 
 pub consumer-inside : (l : Layout) (c : ℕ) → c < l .header .consumers → consumerAt l c + consumerWidth l ≤ sheetLength l
 unfolding sheetLength consumerAt
@@ -29,3 +70,67 @@ consumer-inside l c b = omega arith
 -- The bytes before a producer's place are not many, whatever a header's bytes say.
 pub producers-le : (p days : ℕ) → p ≤ 255 → days ≤ 255 → p * (42 + 288 * days) ≤ 18737910
 producers-le p days hp hd = mul-le-mul {n₂ = 255} {m₂ = 73482} hp (omega arith)
+
+-- In n bytes from two places, every field reads the same.
+abbrev pub SameFields : ℕ → List ℕ → ℕ → List ℕ → ℕ → Type 0
+SameFields n t to s from = (w k : ℕ) → k + w ≤ n → bigEndian w t (to + k) ≡ bigEndian w s (from + k)
+
+pub same-fields : (n : ℕ) (t : List ℕ) (to : ℕ) (s : List ℕ) (from : ℕ) → ((i : ℕ) → i < n → getD t (to + i) 0 ≡ getD s (from + i) 0) → SameFields n t to s from
+same-fields n t to s from h w k b =
+    same-bytes w t s (to + k) (from + k)
+    (λ i l. ap (λ (x : ℕ). getD t x 0) (add-assoc to k i) ∙ h (k + i) (omega arith) ∙ ap (λ (x : ℕ). getD s x 0) (sym (add-assoc from k i)))
+
+-- So is every record.
+module _ (t : List ℕ) (to : ℕ) (s : List ℕ) (from : ℕ) where
+  front-same : {n : ℕ} (w : ℕ) → w ≤ n → SameFields n t to s from → bigEndian w t to ≡ bigEndian w s from
+  front-same w b field = rw (add-zero to, add-zero from) at (field w 0 (omega arith))
+
+  pub stated-same : SameFields statedWidth t to s from → statedOf t to ≡ statedOf s from
+  stated-same field =
+      rw (
+        front-same 4 (omega arith) field,
+        field 4 4 (omega arith),
+        field 4 8 (omega arith),
+        field 2 12 (omega arith),
+        field 2 14 (omega arith),
+        field 2 16 (omega arith),
+        field 4 18 (omega arith),
+        field 4 22 (omega arith),
+        field 4 26 (omega arith),
+        field 4 30 (omega arith),
+        field 4 34 (omega arith),
+        field 4 38 (omega arith),
+      )
+
+  module _ (l : Layout) (field : SameFields (rowWidth l) t to s from) where
+    -- A day that is stated, or not.
+    day-same : (k d : ℕ) → k < 12 → dayAt l t (to + k) d ≡ dayAt l s (from + k) d
+    unfolding dayAt
+    day-same k d q = go (statesDays l) refl
+      where
+        go : (b : Bool) → statesDays l ≡ b → cond b (bigEndian 1 t (to + k)) d ≡ cond b (bigEndian 1 s (from + k)) d
+        go true e = field 1 k (omega (arith, states-width l e))
+        go false e = refl
+
+    pub row-same : rowOf l t to ≡ rowOf l s from
+    row-same =
+        let wide = row-width-from l in
+        rw (
+          front-same 1 (omega (arith, wide)) field,
+          field 1 1 (omega (arith, wide)),
+          field 4 2 (omega (arith, wide)),
+          field 4 6 (omega (arith, wide)),
+          day-same 10 1 (omega arith),
+          day-same 11 (l .header .days) (omega arith),
+        )
+
+  pub consumer-same : SameFields 15 t to s from → consumerOf t to ≡ consumerOf s from
+  consumer-same field =
+      rw (
+        front-same 4 (omega arith) field,
+        field 4 4 (omega arith),
+        field 1 8 (omega arith),
+        field 1 9 (omega arith),
+        field 1 10 (omega arith),
+        field 4 11 (omega arith),
+      )

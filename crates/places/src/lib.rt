@@ -1,7 +1,7 @@
 // Where the records of a sheet stand, and how long the sheet and its result are. No other crate knows how wide a record of the sheet is.
 ghost use mathlib.Core.Path.{_≡_};
 ghost use Prim.Native.Nat.{_≤_};
-ghost use Rattle.rules.specs.Sheet.{hoursWidth, producerAt, hoursAt, hourSeries, rowAt, consumerAt, contractAt, peakAt, sheetLength};
+ghost use Rattle.rules.specs.Sheet.{hoursWidth, producerAt, hoursAt, hourSeries, statesDays, rowWidth, rowAt, consumerAt, contractAt, peakAt, sheetLength};
 ghost use Rattle.rules.specs.Result.{resultLength};
 use rules::Header;
 use rules::HourSeries;
@@ -40,30 +40,44 @@ pub fn hour_series(layout: Layout) -> HourSeries
     }
 }
 
+// Whether rows state the days that they cover.
+pub fn states_days(layout: Layout) -> bool
+    ensures { λ r. ⌜ r ≡ statesDays layout ⌝ }
+{
+    1 < layout.version
+}
+
+// How many bytes a row takes.
+pub fn row_width(layout: Layout) -> usize
+    ensures { λ r. ⌜ (r ≡ rowWidth layout) × (r ≤ 12) ⌝ }
+{
+    if states_days(layout) { 12 } else { 10 }
+}
+
 // Where row j begins.
 pub fn row_at(layout: Layout, j: u8) -> usize
-    ensures { λ r. ⌜ (r ≡ rowAt layout j) × (r ≤ 20002550) ⌝ }
+    ensures { λ r. ⌜ (r ≡ rowAt layout j) × (r ≤ 20003060) ⌝ }
 {
-    producer_at(layout, layout.header.producers) + 10 * (j as usize)
+    producer_at(layout, layout.header.producers) + row_width(layout) * (j as usize)
 }
 
 // Where consumer c begins.
 pub fn consumer_at(layout: Layout, c: u8) -> usize
-    ensures { λ r. ⌜ (r ≡ consumerAt layout c) × (r ≤ 20006375) ⌝ }
+    ensures { λ r. ⌜ (r ≡ consumerAt layout c) × (r ≤ 20006885) ⌝ }
 {
     row_at(layout, layout.header.rows) + 15 * (c as usize)
 }
 
 // Where consumer c's contract volume stands.
 pub fn contract_at(layout: Layout, c: u8) -> usize
-    ensures { λ r. ⌜ (r ≡ contractAt layout c) × (r ≤ 20006375) ⌝ }
+    ensures { λ r. ⌜ (r ≡ contractAt layout c) × (r ≤ 20006885) ⌝ }
 {
     consumer_at(layout, c)
 }
 
 // Where consumer c's peak stands.
 pub fn peak_at(layout: Layout, c: u8) -> usize
-    ensures { λ r. ⌜ (r ≡ peakAt layout c) × (r ≤ 20006379) ⌝ }
+    ensures { λ r. ⌜ (r ≡ peakAt layout c) × (r ≤ 20006889) ⌝ }
 {
     contract_at(layout, c) + 4
 }

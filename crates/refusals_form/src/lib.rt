@@ -1,7 +1,7 @@
 // Numbers 1 to 7: the sheet's form and the result buffer's room; and a producer's hours, which are handed back where 1 to 6 pass.
 ghost use mathlib.Core.Path.{_≡_};
 ghost use mathlib.Core.Bool.{cond};
-ghost use Rattle.rules.specs.Refusals.{badMonth, tooMany, frontTests, headerTests, formTests, roomTests, firstOf};
+ghost use Rattle.rules.specs.Refusals.{badVersion, badMonth, tooMany, frontTests, headerTests, formTests, roomTests, firstOf};
 use calendar::holiday_past;
 use fields::byte;
 use fields::word;
@@ -19,6 +19,14 @@ pub fn first(number: u8, applies: bool, rest: u8) -> u8
     ensures { λ r. ⌜ r ≡ cond applies number rest ⌝ }
 {
     if applies { number } else { rest }
+}
+
+// 3: the version.
+fn bad_version(s: &[u8]) -> bool
+    ensures { λ r. ⌜ r ≡ badVersion (now (s .entry)) ⌝ }
+{
+    let version = byte(s, 4);
+    (version < 1) | (2 < version)
 }
 
 // 4: the month.
@@ -48,7 +56,7 @@ pub fn header_refusal(layout: Layout, bytes: usize) -> u8
 pub fn front_refusal(s: &[u8]) -> u8
     ensures { λ r. ⌜ r ≡ firstOf (frontTests (now (s .entry))) ⌝ }
 {
-    let three = first(3, byte(s, 4) != 1, 0);
+    let three = first(3, bad_version(s), 0);
     let two = first(2, word(s, 0) as usize != s.len(), three);
     first(1, s.len() < 14, two)
 }

@@ -1,8 +1,8 @@
-// The limits that one figure, producer, row or consumer keeps to: numbers 8 to 12, each of one record.
+// The limits that one figure, producer, row or consumer keeps to: numbers 8 to 12 and 18, each of one record.
 ghost use mathlib.Core.Path.{_≡_};
 ghost use lib.Dec.{ltb};
 ghost use Rattle.rules.specs.Units.{one};
-ghost use Rattle.rules.specs.Refusals.{badShare, tooHigh, highConsumer, badReference, tooDear, badFactor};
+ghost use Rattle.rules.specs.Refusals.{badShare, tooHigh, highConsumer, badReference, tooDear, badFactor, badDays};
 ghost use Rattle.refusals_record.specs.Stated.{withoutPower, highStated};
 use rules::Consumer;
 use rules::Header;
@@ -65,6 +65,13 @@ pub fn bad_reference(h: Header, r: Row) -> bool
     ensures { λ b. ⌜ b ≡ badReference h r ⌝ }
 {
     (h.producers <= r.producer) | ((r.consumer != 255) & (h.consumers <= r.consumer))
+}
+
+// 18, of one row.
+pub fn bad_days(h: Header, r: Row) -> bool
+    ensures { λ b. ⌜ b ≡ badDays h r ⌝ }
+{
+    (r.first < 1) | ((r.last < r.first) | (h.days < r.last))
 }
 
 // 9, of one consumer.

@@ -1,6 +1,6 @@
--- What the tests of numbers 8 to 12 find, kind by kind.
+-- What the tests of numbers 8 to 12 and 18 find, kind by kind.
 use Rattle.rules.specs.Month.{Month}
-use Rattle.rules.specs.Refusals.{badShare, highProducer, highRow, badReference, highConsumer, tooDear, badFactor, someProducer, someRow, someConsumer}
+use Rattle.rules.specs.Refusals.{badShare, highProducer, highRow, badReference, highConsumer, tooDear, badFactor, badDays, someProducer, someRow, someConsumer}
 use Rattle.refusals_sheet.specs.declared.ProducerTests.{ProducerTests}
 use Rattle.refusals_sheet.specs.declared.RowTests.{RowTests}
 use Rattle.refusals_sheet.specs.declared.ConsumerTests.{ConsumerTests}
@@ -9,13 +9,14 @@ use Rattle.refusals_sheet.specs.declared.ConsumerTests.{ConsumerTests}
 abbrev pub producerTests : Month → ProducerTests
 producerTests m = record { share = someProducer m (badShare (m .header)); high = someProducer m (highProducer (m .header)) }
 
--- Of some row: numbers 9, 10 and 11.
+-- Of some row: numbers 9, 10, 11 and 18.
 abbrev pub rowTests : Month → RowTests
 rowTests m =
     record {
       high = someRow m highRow;
       reference = someRow m (badReference (m .header));
       dear = someRow m (λ r. tooDear (r .price));
+      days = someRow m (badDays (m .header));
     }
 
 -- Of some consumer: numbers 9, 11 and 12.

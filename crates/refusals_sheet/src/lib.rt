@@ -1,4 +1,5 @@
-// The numbers of a whole sheet: all but 7, all with a result's room, and 4 to 12 of a month under a layout. Each record is read once.
+// The numbers of a whole sheet: all but 7, all with a result's room, and those from 4 on of a month under a layout. Each record is read
+// once.
 ghost use mathlib.Core.Path.{_≡_};
 ghost use Prim.Native.Nat.{_≤_};
 ghost use lib.ListN.{length};
@@ -12,6 +13,7 @@ use refusals_form::form_refusal;
 use refusals_form::header_refusal;
 use refusals_form::room_refusal;
 use refusals_powers::high_powers;
+use refusals_record::bad_days;
 use refusals_record::bad_factor;
 use refusals_record::bad_reference;
 use refusals_record::bad_share;
@@ -32,11 +34,12 @@ struct ProducerTests {
     high: bool,
 }
 
-// What is wrong with some row: numbers 9, 10, 11.
+// What is wrong with some row: numbers 9, 10, 11, 18.
 struct RowTests {
     high: bool,
     reference: bool,
     dear: bool,
+    days: bool,
 }
 
 // What is wrong with some consumer: numbers 9, 11, 12.
@@ -70,18 +73,21 @@ fn row_tests(s: &[u8], layout: Layout) -> RowTests
     let mut high = false;
     let mut reference = false;
     let mut dear = false;
+    let mut days = false;
     let mut j: u8 = 0;
     while j < layout.header.rows {
         let r = row(s, layout, j);
         high = high | too_high(r.volume);
         reference = reference | bad_reference(layout.header, r);
         dear = dear | too_dear(r.price);
+        days = days | bad_days(layout.header, r);
         j += 1;
     }
     RowTests {
         high,
         reference,
         dear,
+        days,
     }
 }
 
@@ -103,7 +109,7 @@ fn consumer_tests(s: &[u8], layout: Layout) -> ConsumerTests
     ConsumerTests { high, dear, factor }
 }
 
-// The first of the numbers 8 to 12 that applies to the figures that a layout puts into a whole sheet, 0 where none does.
+// The first of the numbers 8 to 12 and 18 that applies to the figures that a layout puts into a whole sheet, 0 where none does.
 fn figure_refusal(s: &[u8], layout: Layout) -> u8
     requires { ⌜ sheetLength layout ≤ length (now s) ⌝ }
     ensures { λ r. ⌜ r ≡ firstOf (figureTests (monthUnder layout (now (s .entry)))) ⌝ }
@@ -111,7 +117,8 @@ fn figure_refusal(s: &[u8], layout: Layout) -> u8
     let p = producer_tests(s, layout);
     let r = row_tests(s, layout);
     let c = consumer_tests(s, layout);
-    let twelve = first(12, c.factor, 0);
+    let eighteen = first(18, r.days, 0);
+    let twelve = first(12, c.factor, eighteen);
     let eleven = first(11, r.dear | c.dear, twelve);
     let ten = first(10, r.reference, eleven);
     let nine = first(9, p.high | (r.high | c.high), ten);
@@ -144,7 +151,7 @@ pub fn result_refusal(s: &[u8], needed: usize, room: usize) -> u8
     figure_refusal(s, layout(s))
 }
 
-// The first of the numbers 4 to 12 that applies to the month that a layout puts into a sheet, for a result buffer of so many bytes; 0
+// The first of the numbers from 4 on that applies to the month that a layout puts into a sheet, for a result buffer of so many bytes; 0
 // where none does.
 pub fn month_refusal(s: &[u8], layout: Layout, room: usize) -> u8
     ensures { λ r. ⌜ r ≡ monthNumber layout (now (s .entry)) room ⌝ }

@@ -182,8 +182,8 @@ oneDay = (0 ∷ 0 ∷ 0 ∷ 201 ∷ 1 ∷ 0 ∷ 0 ∷ 0 ∷ 200 ∷ []) ++ joine
 
 -- The sheet of that day with the peak of 50.0 (500 = 256 + 244): it is written for consumer 1, and no other byte changes. (A sheet that is
 -- accepted has 28 days or more, and its record too many bytes to be computed here: the stored records have such cases.)
--- The sheet states version 2, which is not asked here, so that its fifth byte is not the consumer's number too; the peak before is higher,
--- 6,605.7 (66,057 = 65,536 + 2 × 256 + 9).
+-- The sheet states version 2, so that its fifth byte is not the consumer's number too; the peak before is higher, 6,605.7 (66,057 =
+-- 65,536 + 2 × 256 + 9).
 pub peak-written : peakWritten (threeConsumers 2 1 (0 ∷ 1 ∷ 2 ∷ 9 ∷ []) 10) oneDay ≡ threeConsumers 2 1 (0 ∷ 0 ∷ 1 ∷ 244 ∷ []) 10
 unfolding settlement layout averaging
 peak-written = refl
@@ -199,10 +199,10 @@ day-kept = refl
 
 unfoldable pub orderCases : List Figure
 orderCases =
-    -- no record, and the sheet's numbers, which come first: z 0.9; version 2
+    -- no record, and the sheet's numbers, which come first: z 0.9; version 3
     figure (averageRefusal plain []) 16
     ∷ figure (averageRefusal (threeConsumers 1 28 (0 ∷ 0 ∷ 0 ∷ 9 ∷ []) 9) []) 12
-    ∷ figure (averageRefusal (threeConsumers 2 28 (0 ∷ 0 ∷ 0 ∷ 9 ∷ []) 10) []) 3
+    ∷ figure (averageRefusal (threeConsumers 3 28 (0 ∷ 0 ∷ 0 ∷ 9 ∷ []) 10) []) 3
     -- 201 bytes whose front would be that of a sheet of one day with 255 consumers: the days are the sheet's
     ∷ figure (averageRefusal plain ((0 ∷ 0 ∷ 0 ∷ 201 ∷ 1 ∷ 1 ∷ 1 ∷ 0 ∷ 0 ∷ 0 ∷ 0 ∷ 0 ∷ 0 ∷ 255 ∷ []) ++ replicate 187 0)) 16
     ∷ []

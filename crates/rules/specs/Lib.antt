@@ -34,3 +34,4 @@ pub mod TransferCases
 pub mod TableCases
 pub mod AveragingCases
 pub mod Text2015Cases
+pub mod DaysCases

@@ -37,12 +37,15 @@ pub record ProducerLimits (h : Header) (p : Producer) : Type 0 where
   pub possible : (i : ℕ) → i < hours h → p .possible i ≤ tenthsCeiling
   pub outsideUse : (i : ℕ) → i < hours h → p .outsideUse i ≤ tenthsCeiling
 
--- Numbers 9 (volume), 10 (references) and 11 (price).
+-- Numbers 9 (volume), 10 (references), 11 (price) and 18 (days).
 pub record RowLimits (h : Header) (r : Row) : Type 0 where
   pub volume : r .volume ≤ tenthsCeiling
   pub producer : r .producer < h .producers
   pub consumer : (r .consumer ≡ 255 → ⊥) → r .consumer < h .consumers
   pub price : r .price ≤ tiynCeiling
+  pub first-from : 1 ≤ r .first
+  pub last-from : r .first ≤ r .last
+  pub last-to : r .last ≤ h .days
 
 -- Numbers 9 (contract volume and peak), 11 (price) and 12 (mining days and z).
 pub record ConsumerLimits (h : Header) (c : Consumer) : Type 0 where
@@ -65,7 +68,8 @@ pub record MonthLimits (m : Month) : Type 0 where
 pub record FormLimits (s : List ℕ) : Type 0 where
   pub whole-header : headerWidth ≤ length s
   pub length-told : lengthField s ≡ length s
-  pub version-1 : version s ≡ 1
+  pub version-from : 1 ≤ version s
+  pub version-to : version s ≤ 2
   pub header : HeaderLimits (headerOf s)
   pub length-right : lengthField s ≡ sheetLength (layoutOf s)
 

@@ -6,13 +6,13 @@ use Rattle.rules.specs.ControlTable.{controlWeekdays, lineOf, says, tabl
 use Rattle.rules.specs.Bands.{bands, factorOf, bandOf, overNothing, partsOf, thousandths}
 use Rattle.rules.specs.Cut.{owns, support, bilateral, ownVolume, ownSupport, ownBilateral, supportVolume, bilateralVolume, summedCapacity, excess, leftToCut, afterCut}
 use Rattle.rules.specs.Coefficients.{share, millionthsOf, overuse, penalty, lessPenalty, exactK1, k1, k2, asked, met, exactK4, k4, k5, inOrder, coefficients}
-use Rattle.rules.specs.Rows.{running, through, actual, payment}
+use Rattle.rules.specs.Rows.{running, daysCovered, forDays, through, actual, payment}
 use Rattle.rules.specs.Consumers.{credited, credit, countedPeak, overContract, percentOf, bracket, mining, volumeOf, percent, band, volume, charge}
 use Rattle.rules.specs.Totals.{totalPaid, totalCharged}
 use Rattle.rules.specs.Fields.{bigEndian, bytesOf, laid, widthOf, joined, over, overAt}
-use Rattle.rules.specs.Sheet.{lengthField, version, producerAt, hoursAt, power, rowAt, consumerAt, sheetLength, withContracts, withPeak}
+use Rattle.rules.specs.Sheet.{lengthField, version, statesDays, rowWidth, producerAt, hoursAt, power, rowAt, dayAt, consumerAt, sheetLength, withContracts, withPeak}
 use Rattle.rules.specs.Result.{resultLength, rowRecord, consumerRecord, resultOf}
-use Rattle.rules.specs.Refusals.{oneOf, badMonth, tooMany, badShare, tooHigh, highHour, highProducer, highRow, highConsumer, badReference, tooDear, badFactor, frontTests, headerTests, formTests, roomTests, figureTests, sheetTests, testsFor, tests, applies, firstOf, refusal}
+use Rattle.rules.specs.Refusals.{oneOf, badVersion, badMonth, tooMany, badShare, tooHigh, highHour, highProducer, highRow, highConsumer, badReference, tooDear, badFactor, badDays, frontTests, headerTests, formTests, roomTests, figureTests, sheetTests, testsFor, tests, applies, firstOf, refusal}
 use Rattle.rules.specs.Outcome.{answered, lentAfter, outcome, bufferAfter}
 use Rattle.rules.specs.TransferList.{listLength, listVersion, entries, entry}
 use Rattle.rules.specs.Transfers.{badEntry, badFront, late, moved, afterEntries, overdrawn, overdrawnAt, listTests, turnTests, transferTests, transferRefusal, transferOutcome, volumesAfter, transferred}
@@ -25,12 +25,12 @@ use Rattle.rules.specs.Samples.{month, wrong}
 
 -- From a month to its totals.
 unfoldable pub settlement : Unit {0}
-unfolding sum any when rounded inMillionths toTenths money weekdayOn controlWeekday holidayOn controlDay controlHour counted controlSum controlCount average controlAverage bands factorOf bandOf overNothing partsOf thousandths owns support bilateral ownVolume ownSupport ownBilateral supportVolume bilateralVolume summedCapacity excess leftToCut afterCut share millionthsOf overuse penalty lessPenalty exactK1 k1 k2 asked met exactK4 k4 k5 inOrder coefficients running through actual payment credited credit countedPeak overContract percentOf bracket mining volumeOf percent band volume charge totalPaid totalCharged month wrong
+unfolding sum any when rounded inMillionths toTenths money weekdayOn controlWeekday holidayOn controlDay controlHour counted controlSum controlCount average controlAverage bands factorOf bandOf overNothing partsOf thousandths owns support bilateral ownVolume ownSupport ownBilateral supportVolume bilateralVolume summedCapacity excess leftToCut afterCut share millionthsOf overuse penalty lessPenalty exactK1 k1 k2 asked met exactK4 k4 k5 inOrder coefficients running daysCovered forDays through actual payment credited credit countedPeak overContract percentOf bracket mining volumeOf percent band volume charge totalPaid totalCharged month wrong
 settlement = tt
 
 -- From a sheet's bytes to its month, its refusal, and the result's bytes.
 unfoldable pub layout : Unit {0}
-unfolding bigEndian bytesOf laid widthOf joined over overAt lengthField version producerAt hoursAt power rowAt consumerAt sheetLength withContracts withPeak resultLength rowRecord consumerRecord resultOf oneOf badMonth tooMany badShare tooHigh highHour highProducer highRow highConsumer badReference tooDear badFactor frontTests headerTests formTests roomTests figureTests sheetTests testsFor tests applies firstOf refusal answered lentAfter outcome bufferAfter
+unfolding bigEndian bytesOf laid widthOf joined over overAt lengthField version statesDays rowWidth producerAt hoursAt power rowAt dayAt consumerAt sheetLength withContracts withPeak resultLength rowRecord consumerRecord resultOf oneOf badVersion badMonth tooMany badShare tooHigh highHour highProducer highRow highConsumer badReference tooDear badFactor badDays frontTests headerTests formTests roomTests figureTests sheetTests testsFor tests applies firstOf refusal answered lentAfter outcome bufferAfter
 layout = tt
 
 -- From a sheet and a list of transfers to the sheet afterwards.

@@ -135,9 +135,10 @@ stretches =
     -- producer 1: its hours follow 14 + 8,106 + 42 bytes and take 288 × 28
     figure (hoursStretch (hoursSheet 1) 1 .place) 8162
     ∷ figure (hoursStretch (hoursSheet 1) 1 .bytes) 8064
-    -- there is no producer 2; version 2 is refused
+    -- in version 2 too; there is no producer 2; version 3 is refused
+    ∷ figure (hoursStretch (hoursSheet 2) 1 .place) 8162
     ∷ figure (hoursStretch (hoursSheet 1) 2 .place) 0
-    ∷ figure (hoursStretch (hoursSheet 2) 1 .bytes) 0
+    ∷ figure (hoursStretch (hoursSheet 3) 1 .bytes) 0
     ∷ []
 
 -- By computation: the sheet is read as it was written out, and the month's result is laid as it was.

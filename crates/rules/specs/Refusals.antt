@@ -1,4 +1,4 @@
--- Refusals: the numbers 1 to 12 as tests in their order, each of the whole sheet, and the number of the first that applies.
+-- Refusals: the numbers 1 to 12 and 18 as tests in their order, each of the whole sheet, and the number of the first that applies.
 -- [When a sheet is turned down, throughout; the number stands before each test]
 use Prim.Native.Nat.{ℕ, _/_, _^_}
 use mathlib.Core.Bool.{Bool, false, not, cond, _||_, _&&_}
@@ -15,6 +15,10 @@ use Rattle.rules.specs.Result.{resultLength}
 unfoldable pub oneOf : List Bool → Bool
 oneOf [] = false
 oneOf (test ∷ tests) = test || oneOf tests
+
+-- 3: a version other than 1 and 2. [Requests, 5]
+unfoldable pub badVersion : List ℕ → Bool
+badVersion s = oneOf (ltb (version s) 1 ∷ ltb 2 (version s) ∷ [])
 
 -- 4: no month has so many days, no weekday that number, or a day past the month's end is marked as a holiday.
 unfoldable pub badMonth : Header → Bool
@@ -95,6 +99,10 @@ badFactor h c =
     ∷ ltb 100 (c .z)
     ∷ [])
 
+-- 18: a row begins on day 0, ends before it begins, or ends after the month does. [Requests, 5]
+unfoldable pub badDays : Header → Row → Bool
+badDays h r = oneOf (ltb (r .first) 1 ∷ ltb (r .last) (r .first) ∷ ltb (h .days) (r .last) ∷ [])
+
 -- Some producer of the month passes a test.
 abbrev pub someProducer : Month → (Producer → Bool) → Bool
 someProducer m test = any (λ p. test (m .producer p)) (m .header .producers)
@@ -120,7 +128,7 @@ unfoldable pub frontTests : List ℕ → List Test
 frontTests s =
     test 1 (ltb (length s) headerWidth)
     ∷ test 2 (not (eqb (lengthField s) (length s)))
-    ∷ test 3 (not (eqb (version s) 1))
+    ∷ test 3 (badVersion s)
     ∷ []
 
 -- 4 to 6, of a layout and the length of its sheet: the month; the counts; a length other than these ask for.
@@ -136,7 +144,7 @@ formTests s = frontTests s ++ headerTests (layoutOf s) (lengthField s)
 unfoldable pub roomTests : ℕ → ℕ → List Test
 roomTests needed room = test 7 (ltb room needed) ∷ []
 
--- 8 to 12: the figures.
+-- 8 to 12, then 18: the figures.
 unfoldable pub figureTests : Month → List Test
 figureTests m =
     test 8 (someProducer m (badShare (m .header)))
@@ -144,6 +152,7 @@ figureTests m =
     ∷ test 10 (someRow m (badReference (m .header)))
     ∷ test 11 (oneOf (someRow m (λ r. tooDear (r .price)) ∷ someConsumer m (λ c. tooDear (c .price)) ∷ []))
     ∷ test 12 (someConsumer m (badFactor (m .header)))
+    ∷ test 18 (someRow m (badDays (m .header)))
     ∷ []
 
 -- All but 7, in their order: what an entry tries that has no result buffer.

@@ -30,18 +30,23 @@ producer attested deductible ownNeeds up down plan given working possible outsid
       outsideUse = outside;
     }
 
--- Producer, consumer, volume, price.
-abbrev pub row : ℕ → ℕ → ℕ → ℕ → Row
-row p c volume price = record { producer = p; consumer = c; volume = volume; price = price }
+-- First and last day; producer, consumer, volume, price. The month's days are not asked.
+abbrev pub daysRow : ℕ → ℕ → ℕ → ℕ → ℕ → ℕ → ℕ → Row
+daysRow first last p c volume price days =
+    record { producer = p; consumer = c; volume = volume; price = price; first = first; last = last }
+
+-- Producer, consumer, volume, price: a row that covers a month of so many days.
+abbrev pub row : ℕ → ℕ → ℕ → ℕ → ℕ → Row
+row p c volume price days = daysRow 1 days p c volume price days
 
 -- Contract volume, peak, T'', T''', z, price.
 abbrev pub consumer : ℕ → ℕ → ℕ → ℕ → ℕ → ℕ → Consumer
 consumer contract peak supplier grid z price =
     record { contract = contract; peak = peak; supplier = supplier; grid = grid; z = z; price = price }
 
--- Days, weekday of day 1, holidays; the producers, rows and consumers. Past the last of each stands one that no sum may
+-- Days, weekday of day 1, holidays; the producers, rows (each told the month's days) and consumers. Past the last of each stands one that no sum may
 -- count and no sheet may have: attested 10,000.1, volume 10,000.1, z 0.9.
-unfoldable pub month : ℕ → ℕ → ℕ → List Producer → List Row → List Consumer → Month
+unfoldable pub month : ℕ → ℕ → ℕ → List Producer → List (ℕ → Row) → List Consumer → Month
 month days weekday holidays ps rs cs =
     record {
       header =
@@ -54,7 +59,7 @@ month days weekday holidays ps rs cs =
             consumers = length cs;
           };
       producer = λ p. getD ps p (producer 100001 0 0 0 0 0 [] (λ i. 0) (λ i. 0) (λ i. 0));
-      row = λ j. getD rs j (row 0 0 100001 1000);
+      row = λ j. getD rs j (row 0 0 100001 1000) days;
       consumer = λ c. getD cs c (consumer 1000 1000 0 0 9 1000);
     }
 

@@ -1,6 +1,8 @@
 -- The sheet: where each figure of a month stands. No other definition knows a place in the sheet. [Units and the sheet, throughout]
 use Prim.Native.Nat.{ℕ, zero, suc, _+_, _*_}
+use mathlib.Core.Bool.{Bool, cond}
 use mathlib.Core.List.{List}
+use lib.Dec.{ltb}
 use Rattle.rules.specs.Month.{Header, Producer, Row, Consumer, Month}
 use Rattle.rules.specs.Fields.{bigEndian, bytesOf, overAt}
 -- The version and the header: the struct Layout of src/lib.rt. Widths and places go by it, and nothing else does.
@@ -50,9 +52,13 @@ statedWidth = 42
 abbrev pub producerWidth : Layout → ℕ
 producerWidth l = statedWidth + hoursWidth (l .header)
 
--- The width of a row.
-abbrev pub rowWidth : Layout → ℕ
-rowWidth l = 10
+-- Whether rows state the days that they cover: from version 2 on. [Requests, 5]
+unfoldable pub statesDays : Layout → Bool
+statesDays l = ltb 1 (l .version)
+
+-- The width of a row: its two days take a byte each. [Requests, 5]
+unfoldable pub rowWidth : Layout → ℕ
+rowWidth l = cond (statesDays l) 12 10
 
 -- The width of a consumer.
 abbrev pub consumerWidth : Layout → ℕ
@@ -83,7 +89,7 @@ abbrev pub peakAt : Layout → ℕ → ℕ
 peakAt l c = consumerAt l c + 4
 
 -- The length that version, month and counts ask for: the place past the last consumer.
--- (sheet-length, in laws/Sheet: 14 + P × (42 + 288 × days) + 10 × R + 15 × C.)
+-- (sheet-length, in laws/Sheet: 14 + P × (42 + 288 × days) + 10 × R + 15 × C, from version 2 on 12 × R.)
 unfoldable pub sheetLength : Layout → ℕ
 sheetLength l = consumerAt l (l .header .consumers)
 
@@ -146,10 +152,21 @@ producerUnder l s p =
     (power s (hoursAt l p) (hourSeries l .possible))
     (power s (hoursAt l p) (hourSeries l .outside))
 
--- The row whose figures begin at a place.
-abbrev pub rowOf : List ℕ → ℕ → Row
-rowOf s at =
-    record { producer = bigEndian 1 s at; consumer = bigEndian 1 s (at + 1); volume = bigEndian 4 s (at + 2); price = bigEndian 4 s (at + 6) }
+-- The day that stands at a place; where rows state no days, another. [Requests, 5]
+unfoldable pub dayAt : Layout → List ℕ → ℕ → ℕ → ℕ
+dayAt l s at otherwise = cond (statesDays l) (bigEndian 1 s at) otherwise
+
+-- The row whose figures begin at a place. Its days follow the price; a row that states none covers the month. [Requests, 5]
+abbrev pub rowOf : Layout → List ℕ → ℕ → Row
+rowOf l s at =
+    record {
+      producer = bigEndian 1 s at;
+      consumer = bigEndian 1 s (at + 1);
+      volume = bigEndian 4 s (at + 2);
+      price = bigEndian 4 s (at + 6);
+      first = dayAt l s (at + 10) 1;
+      last = dayAt l s (at + 11) (l .header .days);
+    }
 
 -- The consumer whose figures begin at a place.
 abbrev pub consumerOf : List ℕ → ℕ → Consumer
@@ -169,7 +186,7 @@ monthUnder l s =
     record {
       header = l .header;
       producer = producerUnder l s;
-      row = λ j. rowOf s (rowAt l j);
+      row = λ j. rowOf l s (rowAt l j);
       consumer = λ c. consumerOf s (consumerAt l c);
     }
 

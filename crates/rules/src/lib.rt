@@ -50,12 +50,14 @@ pub struct HourSeries {
 }
 
 // A contract row: the producer, the consumer (255 for the single buyer), the volume in tenths of a megawatt, the price in tiyn per
-// megawatt and month.
+// megawatt and month, the first and the last day that it covers, counted from 1.
 pub struct Row {
     pub producer: u8,
     pub consumer: u8,
     pub volume: u32,
     pub price: u32,
+    pub first: u8,
+    pub last: u8,
 }
 
 // A consumer: contract volume DO and peak in tenths of a megawatt, mining days of the supplier (T'') and of the grid company (T'''),

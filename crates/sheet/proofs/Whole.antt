@@ -28,7 +28,7 @@ module _ (l : Layout) (s : List ℕ) (p : ℕ) where
   stretch-short h = rw (lt-ltb (length s) (hoursAt l p + hoursWidth (l .header)) h)
 
 module _ (l : Layout) (s : List ℕ) (j : ℕ) where
-  pub row-whole : rowAt l j + rowWidth l ≤ length s → rowIn l s j ≡ rowOf s (rowAt l j)
+  pub row-whole : rowAt l j + rowWidth l ≤ length s → rowIn l s j ≡ rowOf l s (rowAt l j)
   unfolding rowIn
   row-whole h = rw (le-ltb (length s) (rowAt l j + rowWidth l) h)
 
@@ -46,7 +46,7 @@ module _ (l : Layout) (s : List ℕ) (j : ℕ) where
 
   -- In a whole sheet every row below R and every consumer below C is whole.
   module _ (whole : sheetLength l ≤ length s) where
-    pub row-there : j < l .header .rows → rowIn l s j ≡ rowOf s (rowAt l j)
+    pub row-there : j < l .header .rows → rowIn l s j ≡ rowOf l s (rowAt l j)
     row-there b = row-whole (le-trans (row-inside l j b) whole)
 
     pub consumer-there : j < l .header .consumers → consumerIn l s j ≡ consumerOf s (consumerAt l j)

@@ -42,11 +42,11 @@ stretchIn l bytes p =
 
 -- No row.
 abbrev pub noRow : Row
-noRow = record { producer = 0; consumer = 0; volume = 0; price = 0 }
+noRow = record { producer = 0; consumer = 0; volume = 0; price = 0; first = 0; last = 0 }
 
 -- Row j.
 unfoldable pub rowIn : Layout → List ℕ → ℕ → Row
-rowIn l s j = cond (ltb (length s) (rowAt l j + rowWidth l)) noRow (rowOf s (rowAt l j))
+rowIn l s j = cond (ltb (length s) (rowAt l j + rowWidth l)) noRow (rowOf l s (rowAt l j))
 
 -- No consumer.
 abbrev pub noConsumer : Consumer

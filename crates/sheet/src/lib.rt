@@ -3,7 +3,7 @@
 ghost use mathlib.Core.Path.{_≡_};
 ghost use Prim.Native.Nat.{_+_};
 ghost use lib.ListN.{length};
-ghost use Rattle.rules.specs.Sheet.{headerOf, layoutOf};
+ghost use Rattle.rules.specs.Sheet.{headerOf, layoutOf, dayAt};
 ghost use Rattle.rules.specs.Outcome.{within};
 ghost use Rattle.sheet.specs.Whole.{noneStated, noRow, noConsumer, statedIn, stretchIn, rowIn, consumerIn};
 use fields::byte;
@@ -14,6 +14,8 @@ use places::hours_at;
 use places::hours_width;
 use places::producer_at;
 use places::row_at;
+use places::row_width;
+use places::states_days;
 use rules::Consumer;
 use rules::Header;
 use rules::Layout;
@@ -113,15 +115,24 @@ fn no_row() -> Row
         consumer: 0,
         volume: 0,
         price: 0,
+        first: 0,
+        last: 0,
     }
 }
 
-// Row j. One part of the sheet is lent for its four figures, so that each of them is one load.
+// The day that stands at a place of a row's part; where rows state no days, another.
+fn day_at(part: &[u8], layout: Layout, at: usize, otherwise: u8) -> u8
+    ensures { λ r. ⌜ r ≡ dayAt layout (now (part .entry)) at otherwise ⌝ }
+{
+    if states_days(layout) { byte(part, at) } else { otherwise }
+}
+
+// Row j. One part of the sheet is lent for its figures, so that each of them is one load.
 pub fn row(s: &[u8], layout: Layout, j: u8) -> Row
     ensures { λ r. ⌜ r ≡ rowIn layout (now (s .entry)) j ⌝ }
 {
     let at = row_at(layout, j);
-    let row_end = at + 10;
+    let row_end = at + row_width(layout);
     if s.len() < row_end {
         return no_row();
     }
@@ -131,6 +142,8 @@ pub fn row(s: &[u8], layout: Layout, j: u8) -> Row
         consumer: byte(part, 1),
         volume: word(part, 2),
         price: word(part, 6),
+        first: day_at(part, layout, 10, 1),
+        last: day_at(part, layout, 11, layout.header.days),
     }
 }
 

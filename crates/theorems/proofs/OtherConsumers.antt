@@ -17,6 +17,7 @@ use Rattle.rules.specs.Result.{resultLength, resultOf}
 use Rattle.rules.specs.Refusals.{refusal}
 use Rattle.rules.specs.Outcome.{Accepted, bufferAfter}
 use Rattle.laws.proofs.Fields.{same-bytes}
+use Rattle.laws.proofs.Sheet.{rows-end, row-same}
 use Rattle.laws.proofs.Refusals.{limits, accepted}
 use Rattle.laws.proofs.Answers.{is-changed}
 use Rattle.theorems.specs.Alike.{SameProducer, Alike}
@@ -26,10 +27,6 @@ use Rattle.theorems.proofs.Alike.{alike-limits, alike-result}
 producer-ends : (l : Layout) (p : ℕ) → p < l .header .producers → hoursAt l p + hoursWidth (l .header) ≤ consumerAt l 0
 unfolding consumerAt rowAt hoursAt producerAt
 producer-ends l p b = omega (arith, mul-le-mul-right (42 + 288 * l .header .days) b)
-
-row-ends : (l : Layout) (j : ℕ) → j < l .header .rows → rowAt l j + 10 ≤ consumerAt l 0
-unfolding consumerAt rowAt
-row-ends l j b = omega arith
 
 header-ends : (l : Layout) → 14 ≤ consumerAt l 0
 unfolding consumerAt rowAt producerAt
@@ -87,15 +84,10 @@ module _ (s t : List ℕ) (as-long : length t ≡ length s) (front-kept : (i : �
         outsideUse = λ i q. hour i 8 q (omega arith);
       }
 
-  same-row : (j : ℕ) → j < headerOf s .rows → rowOf t (rowAt (layoutOf s) j) ≡ rowOf s (rowAt (layoutOf s) j)
+  same-row : (j : ℕ) → j < headerOf s .rows → rowOf (layoutOf s) t (rowAt (layoutOf s) j) ≡ rowOf (layoutOf s) s (rowAt (layoutOf s) j)
   same-row j b =
-      let ends = row-ends (layoutOf s) j b in
-      rw (
-        front 1 (rowAt (layoutOf s) j) (omega (arith, ends)),
-        front 1 (rowAt (layoutOf s) j + 1) (omega (arith, ends)),
-        front 4 (rowAt (layoutOf s) j + 2) (omega (arith, ends)),
-        front 4 (rowAt (layoutOf s) j + 6) (omega (arith, ends)),
-      )
+      let ends = rows-end (layoutOf s) j b in
+      row-same t (rowAt (layoutOf s) j) s (rowAt (layoutOf s) j) (layoutOf s) (λ w k q. front w (rowAt (layoutOf s) j + k) (omega (arith, ends)))
 
   -- Its consumers are those of k.
   module _ (k : ℕ → Consumer) (read : (c : ℕ) → c < headerOf s .consumers → consumerOf t (consumerAt (layoutOf s) c) ≡ k c) where
@@ -117,7 +109,8 @@ module _ (s t : List ℕ) (as-long : length t ≡ length s) (front-kept : (i : �
           record {
             whole-header = rw as-long (form .whole-header);
             length-told = same-length-field ∙ form .length-told ∙ sym as-long;
-            version-1 = ap (λ (x : Layout). x .version) same-layout ∙ form .version-1;
+            version-from = rw (ap (λ (x : Layout). x .version) same-layout) (form .version-from);
+            version-to = rw (ap (λ (x : Layout). x .version) same-layout) (form .version-to);
             header = subst HeaderLimits (sym header-kept) (form .header);
             length-right = same-length-field ∙ form .length-right ∙ ap sheetLength (sym same-layout);
           }

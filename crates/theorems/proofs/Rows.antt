@@ -3,17 +3,18 @@ use mathlib.Core.Path.{_≡_, refl, sym, ap, _∙_}
 use mathlib.Core.Bool.{Bool, true, false, not, _&&_}
 use mathlib.Core.List.{List}
 use Prim.Native.Nat.{ℕ, _-_, _≤_, _<_}
-use native.Mathlib.Nat.{le-of-eq, mul-le-mul}
+use native.Mathlib.Nat.{le-of-eq, mul-le-mul, mul-le-mul-right}
 use native.Mathlib.Omega.{arith}
 use borrow.Author.Tests.{eqb-true}
 use lib.Dec.{eqb}
 use Rattle.rules.specs.Range.{sum, when}
 use Rattle.rules.specs.declared.Header.{Header}
+use Rattle.rules.specs.declared.Ratio.{Ratio}
 use Rattle.rules.specs.declared.Row.{Row}
 use Rattle.rules.specs.Month.{Month, hours}
 use Rattle.rules.specs.Cut.{owns, support, bilateral, ownVolume, ownSupport, ownBilateral, supportVolume, bilateralVolume, summedCapacity, excess, leftToCut, afterCut}
 use Rattle.rules.specs.Coefficients.{coefficients}
-use Rattle.rules.specs.Rows.{running, through, actual, payment}
+use Rattle.rules.specs.Rows.{running, daysCovered, forDays, through, actual, payment}
 use Rattle.laws.proofs.Range.{sum-same}
 use Rattle.laws.proofs.Units.{rounded-mono, tenths-mono, millionths-mono, money-mono}
 use Rattle.theorems.specs.Demand3.{WorseProducer}
@@ -24,9 +25,14 @@ unfolding running
 running-mono end h = h
 running-mono (each k rest) h = running-mono rest (rounded-mono 1000000 (mul-le-mul h k))
 
-through-mono : {ks ls : List ℕ} → NoMore ks ls → {v w : ℕ} → v ≤ w → through v ks ≤ through w ls
+days-mono : (covered : Ratio) {x y : ℕ} → x ≤ y → forDays covered x ≤ forDays covered y
+unfolding forDays
+days-mono covered h = rounded-mono (covered .whole) (mul-le-mul-right (covered .part) h)
+
+through-mono : {ks ls : List ℕ} → NoMore ks ls → {days days′ : ℕ} (r : Row) → days′ ≡ days → {v w : ℕ} → v ≤ w
+    → through v ks (daysCovered days′ r) ≤ through w ls (daysCovered days r)
 unfolding through
-through-mono n h = tenths-mono (running-mono n (millionths-mono h))
+through-mono n {days} r e h = rw e (tenths-mono (days-mono (daysCovered days r) (running-mono n (millionths-mono h))))
 
 -- A lower attested capacity leaves no more of a row.
 less-left : (v s b : ℕ) {a a′ : ℕ} → a′ ≤ a → v - (s - a′ - b) ≤ v - (s - a - b)
@@ -87,7 +93,7 @@ module _ (m m′ : Month) (e : m′ .header ≡ m .header) (j : ℕ) (l : j < m 
   actual-down =
       let p = m .row j .producer in
       rw this
-      (through-mono (in-order-down e (same-support m m′ e p r) (same-summed m m′ e p r (w .deductible)) w) cut-down)
+      (through-mono (in-order-down e (same-support m m′ e p r) (same-summed m m′ e p r (w .deductible)) w) (m .row j) (ap (λ (h : Header). h .days) e) cut-down)
 
   pub payment-down : payment m′ j ≤ payment m j
   unfolding payment

@@ -28,18 +28,22 @@ first-requires-4 c κs = search needs
 first-requires-5 : tie.Need-first-requires-5
 first-requires-5 c κs = search needs
 
+first-requires-6 : tie.Need-first-requires-6
+first-requires-6 c κs = search needs
+
 returns : tie.Need-returns
 unfolding firstOf figureTests oneOf
 returns c =
     rw (
-      c .first5 .ensures,
-      c .before .first4 .ensures,
-      c .before .before .before .before .before .first3 .ensures,
-      c .before .before .before .before .before .before .first2 .ensures,
-      c .before .before .before .before .before .before .before .before .before .first .ensures,
-      c .before .before .before .before .before .before .before .before .before .before .consumer-tests .ensures,
-      c .before .before .before .before .before .before .before .before .before .before .before .row-tests .ensures,
-      c .before .before .before .before .before .before .before .before .before .before .before .before .producer-tests .ensures,
+      c .first6 .ensures,
+      c .before .first5 .ensures,
+      c .before .before .before .before .before .first4 .ensures,
+      c .before .before .before .before .before .before .first3 .ensures,
+      c .before .before .before .before .before .before .before .before .before .first2 .ensures,
+      c .before .before .before .before .before .before .before .before .before .before .first .ensures,
+      c .before .before .before .before .before .before .before .before .before .before .before .consumer-tests .ensures,
+      c .before .before .before .before .before .before .before .before .before .before .before .before .row-tests .ensures,
+      c .before .before .before .before .before .before .before .before .before .before .before .before .before .producer-tests .ensures,
     )
     (simp or-false)
 
@@ -55,4 +59,5 @@ figure-refusal-spec =
     first-requires-3
     first-requires-4
     first-requires-5
+    first-requires-6
     returns)

@@ -11,6 +11,9 @@ use Rattle.sheet.proofs.row.Tie as tie
 row-at-requires : tie.Need-row-at-requires
 row-at-requires c κs = search needs
 
+row-width-requires : tie.Need-row-width-requires
+row-width-requires c κs = search needs
+
 add-row-end : tie.Need-add-row-end
 add-row-end c = search needs
 
@@ -19,9 +22,10 @@ no-row-requires c κs = search needs
 
 returns : tie.Need-returns
 returns c =
-    let a = c .before .before .before .before .args in
-    let at = c .before .before .row-at .ensures .0 in
-    c .no-row .ensures ∙ sym (row-short (a .layout) (a .s .now) (a .j) (omega (arith, at, c .before .if1 .taken)))
+    let a = c .before .before .before .before .before .args in
+    let at = c .before .before .before .row-at .ensures .0 in
+    let width = c .before .before .row-width .ensures .0 in
+    c .no-row .ensures ∙ sym (row-short (a .layout) (a .s .now) (a .j) (omega (arith, at, width, c .before .if1 .taken)))
 
 sub-part : tie.Need-sub-part
 sub-part c = search needs
@@ -44,21 +48,37 @@ word-requires c κs = search needs
 word-requires-2 : tie.Need-word-requires-2
 word-requires-2 c κs = search needs
 
+day-at-requires : tie.Need-day-at-requires
+day-at-requires c κs = search needs
+
+day-at-requires-2 : tie.Need-day-at-requires-2
+day-at-requires-2 c κs = search needs
+
 returns-2 : tie.Need-returns-2
 returns-2 c =
-    let place = c .before .before .before .before .before .before .row-at in
-    let a = c .before .before .before .before .before .before .before .before .args in
+    let asked = c .before .before .before .before .before .before .before in
+    let width = asked .before .row-width in
+    let place = asked .before .before .row-at in
+    let a = asked .before .before .before .before .args in
     let s = a .s .now in
-    rw (c .before .before .before .byte .ensures, c .before .before .byte2 .ensures, c .before .word .ensures, c .word2 .ensures)
-    (row-in-part s (place .result) (place .result + 10 - place .result) (omega arith)
-    ∙ ap (rowOf s) (place .ensures .0)
-    ∙ sym (row-whole (a .layout) s (a .j) (omega (arith, place .ensures .0, c .before .before .before .before .before .if1 .left))))
+    rw (
+      c .before .before .before .before .before .byte .ensures,
+      c .before .before .before .before .byte2 .ensures,
+      c .before .before .before .word .ensures,
+      c .before .before .word2 .ensures,
+      c .before .day-at .ensures,
+      c .day-at2 .ensures,
+    )
+    (row-in-part s (place .result) (place .result + width .result - place .result) (a .layout) (omega (arith, width .ensures .0))
+    ∙ ap (rowOf (a .layout) s) (place .ensures .0)
+    ∙ sym (row-whole (a .layout) s (a .j) (omega (arith, place .ensures .0, width .ensures .0, asked .if1 .left))))
 
 pub row-spec : {M : Type 1} → statement M
 row-spec =
     tie.close
     (tie.spec
     row-at-requires
+    row-width-requires
     add-row-end
     no-row-requires
     returns
@@ -69,4 +89,6 @@ row-spec =
     byte-requires-2
     word-requires
     word-requires-2
+    day-at-requires
+    day-at-requires-2
     returns-2)
