@@ -27,8 +27,8 @@
 extern "C" {
 #endif
 
-/* The longest sheet, in bytes: 6 producers, 31 days, 32 rows, 32 consumers. */
-#define CAPACITY_LARGEST_SHEET 54634
+/* The longest sheet of every version, in bytes: version 2, 6 producers, 31 days, 32 rows, 32 consumers. */
+#define CAPACITY_LARGEST_SHEET 54698
 
 /* The longest result, in bytes: 32 rows, 32 consumers. A buffer of this size is long enough for every sheet. */
 #define CAPACITY_LARGEST_RESULT 1333
@@ -52,18 +52,18 @@ extern "C" {
  * The refusals: an answer of -CAPACITY_NO_HEADER and so on. docs/RULES.md has each cause. An entry tries its own in
  * this order, and answers with the first that applies:
  *
- * capacity_settle        1 to 12
- * capacity_transfer      1 to 6 and 8 to 12 of the sheet, then 13 to 15 of the list
- * capacity_average       1 to 6 and 8 to 12 of the sheet, then 16 and 17 of the record
- * capacity_settle_2015   1 to 12, where 7 is about the result of this entry
+ * capacity_settle        1 to 12, then 18
+ * capacity_transfer      1 to 6, 8 to 12, then 18 of the sheet, then 13 to 15 of the list
+ * capacity_average       1 to 6, 8 to 12, then 18 of the sheet, then 16 and 17 of the record
+ * capacity_settle_2015   1 to 12, then 18, where 7 is about the result of this entry
  */
 enum capacity_refusal {
     CAPACITY_NO_HEADER = 1,       /* the sheet has fewer than 14 bytes */
     CAPACITY_WRONG_LENGTH = 2,    /* its length field is not the count of its bytes */
-    CAPACITY_OTHER_VERSION = 3,   /* its version is unknown */
+    CAPACITY_OTHER_VERSION = 3,   /* its version is neither 1 nor 2 */
     CAPACITY_BAD_MONTH = 4,       /* days, weekday or holidays */
     CAPACITY_TOO_MANY = 5,        /* producers, rows or consumers */
-    CAPACITY_LENGTH_OFF = 6,      /* its length does not go with month and counts */
+    CAPACITY_LENGTH_OFF = 6,      /* its length does not go with version, month and counts */
     CAPACITY_SHORT_BUFFER = 7,    /* the result buffer is shorter than the result */
     CAPACITY_BAD_SHARE = 8,       /* a count of hours or a given coefficient */
     CAPACITY_HIGH_FIGURE = 9,     /* a capacity, power, volume or peak above 10,000.0 MW */
@@ -74,7 +74,8 @@ enum capacity_refusal {
     CAPACITY_FILED_LATE = 14,     /* an entry filed after day 20 */
     CAPACITY_OVERDRAWN = 15,      /* at its turn, an entry asks more than the giver has or the taker may have */
     CAPACITY_BAD_RECORD = 16,     /* the record's length, for its bytes or for the month, or its consumer */
-    CAPACITY_HIGH_POWER = 17      /* a power in the record, imported power too, above 10,000.0 MW */
+    CAPACITY_HIGH_POWER = 17,     /* a power in the record, imported power too, above 10,000.0 MW */
+    CAPACITY_BAD_DAYS = 18        /* a row's first or last day */
 };
 
 /*

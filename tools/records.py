@@ -2,8 +2,9 @@
 the figures of a result.
 
 Layout and limits are those of document 01: "Units and the sheet", "Result" and "When a sheet is turned down"; of a
-list, of a complex and of a result under the text of 2015 those of requests 1, 3 and 4 of document 02. Capacities,
-powers, volumes, peaks and amounts are in tenths of a megawatt, prices in tiyn, coefficients in millionths.
+list, of a complex, of a result under the text of 2015 and of a sheet of version 2 those of requests 1, 3, 4 and 5 of
+document 02. Capacities, powers, volumes, peaks and amounts are in tenths of a megawatt, prices in tiyn, coefficients in
+millionths.
 """
 import struct
 import sys
@@ -20,7 +21,7 @@ LOWEST_Z, TOP_Z = 10, 100
 ONE = 1_000_000      # a coefficient of 1
 SINGLE_BUYER = 255
 SINGLE_BUYER_WORDS = "single buyer"
-VERSION = 1
+VERSIONS = FULL_ROWS, DAY_ROWS = 1, 2    # rows of version 1 cover the month, those of version 2 state their days
 RESULT_VERSION = 1    # under every version of the sheet
 LIST_VERSION = 1
 CONTROL_HOURS = range(17, 23)    # of a control day
@@ -53,6 +54,7 @@ PRICE = Unit("price", 2, "tenge")
 COEFFICIENT = Unit("coefficient", 6)
 HOURS = Unit("count of hours", 0, "hours")
 DAYS = Unit("mining days", 0, "days")
+ROW_DAY = Unit("day of a row", 0)
 Z = Unit("z", 1)
 PRODUCER_NUMBER = Unit("producer", 0)
 BUYER = Unit("buyer", 0)
@@ -101,6 +103,11 @@ ROW_FIELDS = (
     Field("volume", "volume", 4, CAPACITY),
     Field("price", "price", 4, PRICE),
 )
+# They follow in a row of version 2; the first day of the month is 1.
+ROW_DAY_FIELDS = (
+    Field("first_day", "first day", 1, ROW_DAY),
+    Field("last_day", "last day", 1, ROW_DAY),
+)
 CONSUMER_FIELDS = (
     Field("contract_volume", "contract volume", 4, CAPACITY),
     Field("peak", "peak", 4, CAPACITY),
@@ -140,6 +147,7 @@ HEADER_PACKING = packing(HEADER_FIELDS)
 PRODUCER_PACKING = packing(PRODUCER_FIELDS)
 HOUR_PACKING = packing(HOUR_FIELDS)
 ROW_PACKING = packing(ROW_FIELDS)
+DAY_ROW_PACKING = packing(ROW_FIELDS + ROW_DAY_FIELDS)
 CONSUMER_PACKING = packing(CONSUMER_FIELDS)
 FRONT_PACKING = packing(FRONT_FIELDS)
 ENTRY_PACKING = packing(ENTRY_FIELDS)
@@ -147,6 +155,19 @@ COMPLEX_PACKING = packing(COMPLEX_FIELDS)
 COMPLEX_HOUR_PACKING = packing(COMPLEX_HOUR_FIELDS)
 HEADER, FRONT, ENTRY = HEADER_PACKING.size, FRONT_PACKING.size, ENTRY_PACKING.size
 COMPLEX_FRONT, COMPLEX_HOUR = COMPLEX_PACKING.size, COMPLEX_HOUR_PACKING.size
+
+
+def states_days(version):
+    """Whether the rows of a version state the days that they cover."""
+    return version >= DAY_ROWS
+
+
+def row_fields(version):
+    return ROW_FIELDS + ROW_DAY_FIELDS if states_days(version) else ROW_FIELDS
+
+
+def row_packing(version):
+    return DAY_ROW_PACKING if states_days(version) else ROW_PACKING
 
 
 def complex_length(days):
@@ -209,16 +230,20 @@ class Header(NamedTuple):
         return PRODUCER_PACKING.size + self.month.hours * HOUR_PACKING.size
 
     @property
+    def row_length(self):
+        return row_packing(self.version).size
+
+    @property
     def sheet_length(self):
-        """The length that the counts and the days ask for."""
-        return (HEADER + self.producers * self.producer_length + self.rows * ROW_PACKING.size
+        """The length that the version, the counts and the days ask for."""
+        return (HEADER + self.producers * self.producer_length + self.rows * self.row_length
                 + self.consumers * CONSUMER_PACKING.size)
 
     def records(self):
         """Each record of the sheet in order: its kind, its number, its place, its length."""
         place = HEADER
         for kind, count, length in (("producer", self.producers, self.producer_length),
-                                    ("row", self.rows, ROW_PACKING.size),
+                                    ("row", self.rows, self.row_length),
                                     ("consumer", self.consumers, CONSUMER_PACKING.size)):
             for number in range(count):
                 yield kind, number, place, length
@@ -270,16 +295,29 @@ class Row:
     consumer: int
     volume: int
     price: int
+    first_day: int = None    # none in version 1: the row covers the month
+    last_day: int = None
 
     @classmethod
     def from_bytes(cls, content):
-        return cls(*ROW_PACKING.unpack(content))
+        packing_of_row = ROW_PACKING if len(content) == ROW_PACKING.size else DAY_ROW_PACKING
+        return cls(*packing_of_row.unpack(content))
 
     def figures(self):
-        return [self.producer, self.consumer, self.volume, self.price]
+        """The figures of its fields: those that it states."""
+        figures = [self.producer, self.consumer, self.volume, self.price]
+        return figures if self.first_day is None else [*figures, self.first_day, self.last_day]
 
-    def to_bytes(self):
-        return ROW_PACKING.pack(*self.figures())
+    def days(self, month):
+        """Its first and last day in a month."""
+        return (1, month.days) if self.first_day is None else (self.first_day, self.last_day)
+
+    def to_bytes(self, version, month):
+        """In a sheet of a version; one that states no days is given those of the month where it must."""
+        figures = [self.producer, self.consumer, self.volume, self.price]
+        if states_days(version):
+            figures.extend(self.days(month))
+        return row_packing(version).pack(*figures)
 
 
 @dataclass
@@ -322,8 +360,8 @@ class Sheet:
     producers: list
     rows: list
     consumers: list
+    version: int = FULL_ROWS
     # The rest differs only in sheets that are to be turned down.
-    version: int = VERSION
     stated_length: int = None    # in place of the true length
     stated_counts: list = None   # P, R, C in place of the true counts
     surplus: int = 0             # bytes added after the last record, or left off if below 0
@@ -340,7 +378,9 @@ class Sheet:
         return cls(header.month, *found.values(), version=header.version)
 
     def to_bytes(self):
-        body = b"".join(record.to_bytes() for record in self.producers + self.rows + self.consumers)
+        body = b"".join((*(producer.to_bytes() for producer in self.producers),
+                         *(row.to_bytes(self.version, self.month) for row in self.rows),
+                         *(consumer.to_bytes() for consumer in self.consumers)))
         if self.surplus > 0:
             body += bytes(self.surplus)
         elif self.surplus < 0:
@@ -382,9 +422,11 @@ def hour_words(hour):
 
 def entries(content):
     """Every field after the header of a sheet that gets past refusal 6, in the sheet's order."""
-    parts = {"producer": (PRODUCER_FIELDS, PRODUCER_PACKING), "row": (ROW_FIELDS, ROW_PACKING),
+    header = Header.from_bytes(content)
+    parts = {"producer": (PRODUCER_FIELDS, PRODUCER_PACKING),
+             "row": (row_fields(header.version), row_packing(header.version)),
              "consumer": (CONSUMER_FIELDS, CONSUMER_PACKING)}
-    for kind, number, place, length in Header.from_bytes(content).records():
+    for kind, number, place, length in header.records():
         end = place + length
         fields, layout = parts[kind]
         for field, figure in zip(fields, layout.unpack_from(content, place)):
@@ -400,8 +442,8 @@ def row_volumes(sheet):
     """The volumes that the rows of an accepted sheet's bytes give."""
     header = Header.from_bytes(sheet)
     place = HEADER + header.producers * header.producer_length
-    end = place + header.rows * ROW_PACKING.size
-    return [volume for _, _, volume, _ in ROW_PACKING.iter_unpack(sheet[place:end])]
+    end = place + header.rows * header.row_length
+    return [figures[2] for figures in row_packing(header.version).iter_unpack(sheet[place:end])]
 
 
 # ------------------------------------------------------------------ results

@@ -7,14 +7,14 @@ complexes.py try them.
 from typing import NamedTuple
 
 from records import (BUYER, CAPACITY, COEFFICIENT, DAYS, HEADER, HEADER_FIELDS, HOURS, LOWEST_Z, MOST_CONSUMERS,
-                     MOST_PRODUCERS, MOST_ROWS, ONE, PRICE, PRODUCER_NUMBER, SINGLE_BUYER, TOP_CAPACITY, TOP_PRICE,
-                     TOP_Z, VERSION, Z, Entry, Header, entries)
+                     MOST_PRODUCERS, MOST_ROWS, ONE, PRICE, PRODUCER_NUMBER, ROW_DAY, SINGLE_BUYER, TOP_CAPACITY,
+                     TOP_PRICE, TOP_Z, VERSIONS, Z, Entry, Header, entries)
 
 HANDED_OVER = 65_536    # bytes of a longer input that the program takes
 
 # The order in which the numbers are tried, each over the whole sheet before the next. What is "first" goes by the place
 # in this list and never by size: a number added later stands where it is tried.
-TRIED = (1, 2, 3, 4, 5, 6, 7, 8, 9, 10, 11, 12)
+TRIED = (1, 2, 3, 4, 5, 6, 7, 8, 9, 10, 11, 12, 18)
 BUFFER_NUMBER = 7       # the result buffer is shorter than the result
 # The same for a list of transfers. A settlement never meets them; where a list is applied to a sheet, they are tried
 # after all of the sheet's save 7.
@@ -27,10 +27,10 @@ LAST_FILING_DAY = 20
 RULES = {
     1: f"the sheet has fewer than {HEADER} bytes",
     2: "the length field is not the number of bytes",
-    3: f"the version is not {VERSION}",
+    3: f"the version is not {' or '.join(map(str, VERSIONS))}",
     4: "there is no such month: days are 28 to 31, the weekday of day 1 is 1 to 7, no holiday is past the last day",
     5: f"too many records: at most {MOST_PRODUCERS} producers, {MOST_ROWS} rows, {MOST_CONSUMERS} consumers",
-    6: "the length is not what the counts and the days ask for",
+    6: "the length is not what the version, the counts and the days ask for",
     7: "the result buffer is shorter than the result",
     8: "a count of hours is above the hours of the month, or a given coefficient is above 1",
     9: f"a capacity, power, volume or peak is above {CAPACITY.text(TOP_CAPACITY)} MW",
@@ -45,6 +45,7 @@ RULES = {
     16: "the record's length is not what its bytes and the days of the month ask for, or it names no consumer of the "
         "sheet",
     17: f"a power in the record is above {CAPACITY.text(TOP_CAPACITY)} MW",
+    18: "a row's first day is 0, or its last day is before the first or after the month's end",
 }
 
 
@@ -167,7 +168,7 @@ def form_refusals(content):
     header = Header.from_bytes(content)
     if header.length != len(content):
         yield header_refusal(2, "length", f"{header.length}, but there are {len(content)} bytes")
-    if header.version != VERSION:
+    if header.version not in VERSIONS:
         yield header_refusal(3, "version", header.version)
     yield from month_refusals(header)
     yield from counts_refusals(header)
@@ -178,8 +179,9 @@ def form_refusals(content):
 # ------------------------------------------------------------------ the sheet's figures
 
 
-def broken_rule(entry, header):
-    """The number that a field breaks, with what is allowed there; none if it breaks no rule."""
+def broken_rule(entry, header, before):
+    """The number that a field breaks, with what is allowed there; none if it breaks no rule. before: the figure of the
+    field before it, which for a row's last day is its first."""
     unit, figure = entry.field.unit, entry.figure
     if unit is HOURS and figure > header.month.hours:
         return 8, f"at most {header.month.hours}"
@@ -197,14 +199,19 @@ def broken_rule(entry, header):
         return 12, f"at most {header.days}"
     if unit is Z and not LOWEST_Z <= figure <= TOP_Z:
         return 12, f"from {unit.text(LOWEST_Z)} to {unit.text(TOP_Z)}"
+    if unit is ROW_DAY and entry.field.key == "first_day" and figure < 1:
+        return 18, "from 1"
+    if unit is ROW_DAY and entry.field.key == "last_day" and not before <= figure <= header.days:
+        return 18, f"from the first day, {before}, to {header.days}"
     return None
 
 
 def figure_refusals(content):
     """What breaks the rules of the figures, in the sheet's order; the places of its records must be known."""
-    header = Header.from_bytes(content)
+    header, before = Header.from_bytes(content), None
     for entry in entries(content):
-        broken = broken_rule(entry, header)
+        broken = broken_rule(entry, header, before)
+        before = entry.figure
         if broken:
             number, allowed = broken
             yield Refusal(number, entry.place, entry=entry, allowed=allowed)
