@@ -38,6 +38,15 @@ module _ (number : ℕ) (changed before : List ℕ) where
       go true e = new (eqb-true _ _ e)
       go false e = old
 
+  -- Where no number applies, another change that is the same leaves the same buffer.
+  pub same-after : (changed′ : List ℕ) → (number ≡ 0 → changed′ ≡ changed) → lentAfter number changed′ before ≡ lentAfter number changed before
+  unfolding lentAfter
+  same-after changed′ same = go (eqb number 0) refl
+    where
+      go : (b : Bool) → eqb number 0 ≡ b → cond b changed′ before ≡ cond b changed before
+      go true e = same (eqb-true _ _ e)
+      go false e = refl
+
   -- The answer to a refusal, and to a buffer that is changed, with the buffer afterwards.
   pub turned-down : {n : ℕ} (count : ℕ) → n ≡ number → (n ≡ 0 → ⊥)
       → (refused n ≡ answered number count) × (before ≡ lentAfter number changed before)

@@ -311,7 +311,7 @@ module _ (s : List ℕ) where
         length-right = eqb-true _ _ (not-true _ (c 6));
       }
 
-  form-clear : FormLimits s → firstOf (formTests s) ≡ 0
+  pub form-clear : FormLimits s → firstOf (formTests s) ≡ 0
   unfolding frontTests headerTests formTests badVersion
   form-clear l =
       all-clear _ (

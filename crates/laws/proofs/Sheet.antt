@@ -6,11 +6,12 @@ use Prim.Native.Nat.{ℕ, _+_, _*_, _≤_, _<_}
 use native.Mathlib.Nat.{add-zero, add-assoc, mul-le-mul, mul-le-mul-left, mul-le-mul-right}
 use native.Mathlib.Omega.{arith}
 use borrow.Author.Tests.{le-ltb, lt-ltb}
-use lib.ListN.{getD}
+use lib.ListN.{length, getD}
 use Rattle.rules.specs.declared.Layout.{Layout}
-use Rattle.rules.specs.Fields.{bigEndian}
+use Rattle.rules.specs.Fields.{bigEndian, bytesFrom}
 use Rattle.rules.specs.Sheet.{statedWidth, hoursWidth, statesDays, rowWidth, consumerWidth, producerAt, hoursAt, rowAt, consumerAt, sheetLength, statedOf, dayAt, rowOf, consumerOf}
-use Rattle.laws.proofs.Fields.{same-bytes}
+use Rattle.laws.proofs.Arrays.{length-listed, getD-listed}
+use Rattle.laws.proofs.Fields.{same-bytes, Holds}
 
 -- The width of a row: 10 in version 1, from version 2 on 12.
 pub row-width-1 : (l : Layout) → l .version ≤ 1 → rowWidth l ≡ 10
@@ -80,9 +81,18 @@ same-fields n t to s from h w k b =
     same-bytes w t s (to + k) (from + k)
     (λ i l. ap (λ (x : ℕ). getD t x 0) (add-assoc to k i) ∙ h (k + i) (omega arith) ∙ ap (λ (x : ℕ). getD s x 0) (sym (add-assoc from k i)))
 
+-- Bytes of s that stand in t.
+pub length-from : (s : List ℕ) (at n : ℕ) → length (bytesFrom s at n) ≡ n
+unfolding bytesFrom
+length-from s at n = length-listed _ n
+
+pub held-from : (n : ℕ) (t : List ℕ) (to : ℕ) (s : List ℕ) (from : ℕ) → Holds t to (bytesFrom s from n) → SameFields n t to s from
+unfolding bytesFrom
+held-from n t to s from h = same-fields n t to s from (λ i l. h .byte i (rw length-listed l) ∙ getD-listed 0 _ n i l)
+
 -- So is every record.
 module _ (t : List ℕ) (to : ℕ) (s : List ℕ) (from : ℕ) where
-  front-same : {n : ℕ} (w : ℕ) → w ≤ n → SameFields n t to s from → bigEndian w t to ≡ bigEndian w s from
+  pub front-same : {n : ℕ} (w : ℕ) → w ≤ n → SameFields n t to s from → bigEndian w t to ≡ bigEndian w s from
   front-same w b field = rw (add-zero to, add-zero from) at (field w 0 (omega arith))
 
   pub stated-same : SameFields statedWidth t to s from → statedOf t to ≡ statedOf s from

@@ -5,7 +5,7 @@ use lib.ListN.{replicate}
 use Rattle.rules.specs.Range.{when}
 use Rattle.rules.specs.Units.{one}
 use Rattle.rules.specs.Month.{Row, Consumer, Month}
-use Rattle.rules.specs.Sheet.{layoutOf, monthOf, sheetLength}
+use Rattle.rules.specs.Sheet.{layoutOf, monthOf, sheetLength, inVersion2}
 use Rattle.rules.specs.Cut.{afterCut}
 use Rattle.rules.specs.Rows.{actual, payment}
 use Rattle.rules.specs.Consumers.{credit}
@@ -165,3 +165,8 @@ day-cases = refl
 pub version-cases : wrong versionCases ≡ []
 unfolding settlement layout sheetOf2 sheetOf1 versionCases
 version-cases = refl
+
+-- The sheet of version 1 above, written in version 2: 49 + 2 × 2 = 53 bytes, both rows from day 1 to day 31.
+pub written-in-2 : inVersion2 sheetOf1 ≡ front 53 2 31 2 1 ++ rowBytes 5 (1 ∷ 31 ∷ []) ++ rowBytes 6 (1 ∷ 31 ∷ []) ++ replicate 15 11
+unfolding layout sheetOf1
+written-in-2 = refl

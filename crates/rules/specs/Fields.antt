@@ -2,11 +2,16 @@
 use Prim.Native.Nat.{ℕ, zero, suc, _+_, _*_, _/_, _%_}
 use mathlib.Core.List.{List, [], _∷_, _++_}
 use lib.ListN.{length, getD, take, drop}
+use Rattle.rules.specs.Range.{listed}
 
 -- The number in the w bytes of s from place at; a byte past the end counts as 0.
 unfoldable pub bigEndian : ℕ → List ℕ → ℕ → ℕ
 bigEndian zero s at = 0
 bigEndian (suc w) s at = bigEndian w s at * 256 + getD s (at + w) 0
+
+-- The n bytes of s from place at on; a byte past the end counts as 0.
+unfoldable pub bytesFrom : List ℕ → ℕ → ℕ → List ℕ
+bytesFrom s at n = listed (λ i. getD s (at + i) 0) n
 
 -- v in w bytes.
 unfoldable pub bytesOf : ℕ → ℕ → List ℕ

@@ -1,10 +1,10 @@
 -- The sheet: where each figure of a month stands. No other definition knows a place in the sheet. [Units and the sheet, throughout]
-use Prim.Native.Nat.{ℕ, zero, suc, _+_, _*_}
+use Prim.Native.Nat.{ℕ, zero, suc, _+_, _-_, _*_}
 use mathlib.Core.Bool.{Bool, cond}
-use mathlib.Core.List.{List}
+use mathlib.Core.List.{List, [], _∷_, _++_}
 use lib.Dec.{ltb}
 use Rattle.rules.specs.Month.{Header, Producer, Row, Consumer, Month}
-use Rattle.rules.specs.Fields.{bigEndian, bytesOf, overAt}
+use Rattle.rules.specs.Fields.{bigEndian, bytesFrom, bytesOf, field, laid, joined, overAt}
 -- The version and the header: the struct Layout of src/lib.rt. Widths and places go by it, and nothing else does.
 pub use Rattle.rules.specs.declared.Layout.{Layout}
 -- A producer's stated figures, a series of powers, and the series of its hours: the structs Stated, Series and HourSeries of src/lib.rt.
@@ -202,3 +202,12 @@ withContracts l v (suc n) s = overAt (contractAt l n) (bytesOf 4 (v n)) (withCon
 -- The sheet after a peak was written for consumer c. [Requests, 3]
 unfoldable pub withPeak : Layout → ℕ → ℕ → List ℕ → List ℕ
 withPeak l c peak s = overAt (peakAt l c) (bytesOf 4 peak) s
+
+-- A sheet of version 1 written in version 2: it has two bytes more for each row, and behind each row's figures stand day 1 and the last day
+-- of the month. [Requests, 5]
+unfoldable pub inVersion2 : List ℕ → List ℕ
+inVersion2 s =
+    laid (field 4 (lengthField s + 2 * headerOf s .rows) ∷ field 1 2 ∷ [])
+    ++ (bytesFrom s 5 (rowAt (layoutOf s) 0 - 5)
+    ++ (joined (λ j. bytesFrom s (rowAt (layoutOf s) j) 10 ++ (1 ∷ headerOf s .days ∷ [])) (headerOf s .rows)
+    ++ bytesFrom s (consumerAt (layoutOf s) 0) (consumerWidth (layoutOf s) * headerOf s .consumers)))

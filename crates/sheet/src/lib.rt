@@ -124,7 +124,11 @@ fn no_row() -> Row
 fn day_at(part: &[u8], layout: Layout, at: usize, otherwise: u8) -> u8
     ensures { λ r. ⌜ r ≡ dayAt layout (now (part .entry)) at otherwise ⌝ }
 {
-    if states_days(layout) { byte(part, at) } else { otherwise }
+    if states_days(layout) {
+        byte(part, at)
+    } else {
+        otherwise
+    }
 }
 
 // Row j. One part of the sheet is lent for its figures, so that each of them is one load.

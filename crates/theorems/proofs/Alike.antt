@@ -1,18 +1,22 @@
 -- Alike months have one result: by demand 3's relation, read in both directions. Assumes nothing.
 use mathlib.Core.Path.{_≡_, refl, sym, ap, ap₂, _∙_}
 use mathlib.Core.List.{List, _++_}
-use Prim.Native.Nat.{ℕ, zero, suc, _<_}
-use native.Mathlib.Nat.{le-of-eq, le-antisymm}
+use Prim.Native.Nat.{ℕ, zero, suc, _+_, _*_, _≤_, _<_}
+use native.Mathlib.Nat.{add-assoc, le-of-eq, le-antisymm}
 use native.Mathlib.Omega.{arith}
 use Rattle.rules.specs.declared.Header.{Header}
+use Rattle.rules.specs.declared.Layout.{Layout}
+use Rattle.rules.specs.declared.Stated.{Stated}
 use Rattle.rules.specs.Month.{Producer, Month, hours}
 use Rattle.rules.specs.Limits.{ProducerLimits, MonthLimits}
 use Rattle.rules.specs.Cut.{afterCut}
 use Rattle.rules.specs.Rows.{actual, payment}
 use Rattle.rules.specs.Consumers.{credit, countedPeak, percent, band, volume, charge}
 use Rattle.rules.specs.Totals.{totalPaid, totalCharged}
-use Rattle.rules.specs.Fields.{laid, joined}
+use Rattle.rules.specs.Fields.{bigEndian, laid, joined}
+use Rattle.rules.specs.Sheet.{producerWidth, producerAt, hoursAt, power, producerUnder}
 use Rattle.rules.specs.Result.{RowFigures, ConsumerFigures, TotalFigures, rowFigures, consumerFigures, totalFigures, rowFields, consumerFields, totalFields, headFields, rowRecord, consumerRecord, resultOf}
+use Rattle.laws.proofs.Sheet.{SameFields, stated-same}
 use Rattle.theorems.specs.Demand3.{WorseProducer, Worse}
 use Rattle.theorems.specs.Alike.{SameProducer, Alike}
 use Rattle.theorems.proofs.Rows as Rows
@@ -78,8 +82,37 @@ same-limits a w =
       outsideUse = λ i l. rw (a .outsideUse i l) (w .outsideUse i l);
     }
 
+-- Producers whose bytes are the same, each under its layout.
+module _ (l l′ : Layout) (s t : List ℕ) (p : ℕ) (field : SameFields (producerWidth l) t (producerAt l′ p) s (producerAt l p)) where
+  hour-same : (k i : ℕ) → k ≤ 8 → i < hours (l .header) → bigEndian 4 t (hoursAt l′ p + (k + 12 * i)) ≡ bigEndian 4 s (hoursAt l p + (k + 12 * i))
+  unfolding hoursAt
+  hour-same k i a b =
+      rw (add-assoc (producerAt l′ p) 42 (k + 12 * i), add-assoc (producerAt l p) 42 (k + 12 * i)) (field 4 (42 + (k + 12 * i)) (omega arith))
+
+  pub producer-same : SameProducer (hours (l .header)) (producerUnder l s p) (producerUnder l′ t p)
+  unfolding power
+  producer-same =
+      let e = stated-same t (producerAt l′ p) s (producerAt l p) (λ w k b. field w k (omega arith)) in
+      record {
+        attested = ap (λ (x : Stated). x .attested) e;
+        deductible = ap (λ (x : Stated). x .deductible) e;
+        ownNeeds = ap (λ (x : Stated). x .needs) e;
+        noUpwardBid = ap (λ (x : Stated). x .upward) e;
+        noDownwardBid = ap (λ (x : Stated). x .downward) e;
+        noPlan = ap (λ (x : Stated). x .plan) e;
+        k3 = ap (λ (x : Stated). x .k3) e;
+        k6 = ap (λ (x : Stated). x .k6) e;
+        k7 = ap (λ (x : Stated). x .k7) e;
+        k8 = ap (λ (x : Stated). x .k8) e;
+        k9 = ap (λ (x : Stated). x .k9) e;
+        k10 = ap (λ (x : Stated). x .k10) e;
+        working = λ i q. hour-same 0 i (omega arith) q;
+        possible = λ i q. hour-same 4 i (omega arith) q;
+        outsideUse = λ i q. hour-same 8 i (omega arith) q;
+      }
+
 -- Records one after the other, each the same.
-joined-same : (f g : ℕ → List ℕ) (n : ℕ) → ((i : ℕ) → i < n → f i ≡ g i) → joined f n ≡ joined g n
+pub joined-same : (f g : ℕ → List ℕ) (n : ℕ) → ((i : ℕ) → i < n → f i ≡ g i) → joined f n ≡ joined g n
 unfolding joined
 joined-same f g zero h = refl
 joined-same f g (suc n) h = rw (joined-same f g n (λ i l. h i (omega arith)), h n (omega arith))

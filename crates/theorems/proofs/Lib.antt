@@ -12,4 +12,6 @@ pub mod OtherConsumers
 pub mod Transfers
 pub mod Averaging
 pub mod Text2015
+pub mod SameFigures
+pub mod Version2
 pub mod Requests

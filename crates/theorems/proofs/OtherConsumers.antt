@@ -3,7 +3,7 @@
 use mathlib.Core.Path.{_≡_, refl, sym, ap, subst, _∙_}
 use mathlib.Core.List.{List}
 use Prim.Native.Nat.{ℕ, _+_, _*_, _≤_, _<_}
-use native.Mathlib.Nat.{add-zero, mul-le-mul-right}
+use native.Mathlib.Nat.{mul-le-mul-right}
 use native.Mathlib.Omega.{arith}
 use lib.ListN.{length, getD}
 use Rattle.rules.specs.declared.Header.{Header}
@@ -12,7 +12,7 @@ use Rattle.rules.specs.declared.Layout.{Layout}
 use Rattle.rules.specs.Month.{hours, withConsumers}
 use Rattle.rules.specs.Limits.{HeaderLimits, ConsumerLimits, FormLimits, MonthLimits}
 use Rattle.rules.specs.Fields.{bigEndian, over}
-use Rattle.rules.specs.Sheet.{version, lengthField, headerOf, layoutOf, monthOf, monthUnder, hoursWidth, producerAt, hoursAt, power, producerUnder, rowAt, rowOf, consumerAt, consumerOf, sheetLength}
+use Rattle.rules.specs.Sheet.{version, lengthField, headerOf, layoutOf, monthOf, monthUnder, hoursWidth, producerAt, hoursAt, producerUnder, rowAt, rowOf, consumerAt, consumerOf, sheetLength}
 use Rattle.rules.specs.Result.{resultLength, resultOf}
 use Rattle.rules.specs.Refusals.{refusal}
 use Rattle.rules.specs.Outcome.{Accepted, bufferAfter}
@@ -21,7 +21,7 @@ use Rattle.laws.proofs.Sheet.{rows-end, row-same}
 use Rattle.laws.proofs.Refusals.{limits, accepted}
 use Rattle.laws.proofs.Answers.{is-changed}
 use Rattle.theorems.specs.Alike.{SameProducer, Alike}
-use Rattle.theorems.proofs.Alike.{alike-limits, alike-result}
+use Rattle.theorems.proofs.Alike.{producer-same, alike-limits, alike-result}
 
 -- A producer below P, and a row below R, end where the consumers begin.
 producer-ends : (l : Layout) (p : ℕ) → p < l .header .producers → hoursAt l p + hoursWidth (l .header) ≤ consumerAt l 0
@@ -59,30 +59,9 @@ module _ (s t : List ℕ) (as-long : length t ≡ length s) (front-kept : (i : �
   same-length-field = in-header 4 0 (omega arith)
 
   same-producer : (p : ℕ) → p < headerOf s .producers → SameProducer (hours (headerOf s)) (producerUnder (layoutOf s) s p) (producerUnder (layoutOf s) t p)
-  unfolding power
   same-producer p b =
       let ends = producer-ends (layoutOf s) p b in
-      let hour : (i k : ℕ) → i < 24 * headerOf s .days → k ≤ 8 → bigEndian 4 t (hoursAt (layoutOf s) p + (k + 12 * i)) ≡ bigEndian 4 s (hoursAt (layoutOf s) p + (k + 12 * i)) =
-      λ i k q r. front 4 (hoursAt (layoutOf s) p + (k + 12 * i)) (omega (arith, ends)) in
-      let stated : (w k : ℕ) → k + w ≤ 42 → bigEndian w t (producerAt (layoutOf s) p + k) ≡ bigEndian w s (producerAt (layoutOf s) p + k) =
-      λ w k q. front w (producerAt (layoutOf s) p + k) (unfold hoursAt in omega (arith, ends)) in
-      record {
-        attested = rw add-zero at (stated 4 0 (omega arith));
-        deductible = stated 4 4 (omega arith);
-        ownNeeds = stated 4 8 (omega arith);
-        noUpwardBid = stated 2 12 (omega arith);
-        noDownwardBid = stated 2 14 (omega arith);
-        noPlan = stated 2 16 (omega arith);
-        k3 = stated 4 18 (omega arith);
-        k6 = stated 4 22 (omega arith);
-        k7 = stated 4 26 (omega arith);
-        k8 = stated 4 30 (omega arith);
-        k9 = stated 4 34 (omega arith);
-        k10 = stated 4 38 (omega arith);
-        working = λ i q. hour i 0 q (omega arith);
-        possible = λ i q. hour i 4 q (omega arith);
-        outsideUse = λ i q. hour i 8 q (omega arith);
-      }
+      producer-same (layoutOf s) (layoutOf s) s t p (λ w k q. front w (producerAt (layoutOf s) p + k) (unfold hoursAt in omega (arith, ends)))
 
   same-row : (j : ℕ) → j < headerOf s .rows → rowOf (layoutOf s) t (rowAt (layoutOf s) j) ≡ rowOf (layoutOf s) s (rowAt (layoutOf s) j)
   same-row j b =

@@ -14,9 +14,9 @@ use Rattle.rules.specs.Consumers.{volumeOf}
 use Rattle.rules.specs.ControlHours.{weekdayOn, controlWeekday, controlDay}
 use Rattle.rules.specs.ControlTable.{controlWeekdays, lineOf, says, tableDay}
 use Rattle.rules.specs.Fields.{bigEndian, over}
-use Rattle.rules.specs.Sheet.{headerOf, monthOf}
+use Rattle.rules.specs.Sheet.{version, headerOf, monthOf, inVersion2}
 use Rattle.rules.specs.Result.{resultOf}
-use Rattle.rules.specs.Refusals.{frontTests, headerTests, formTests, figureTests, sheetTests}
+use Rattle.rules.specs.Refusals.{frontTests, headerTests, formTests, figureTests, sheetTests, firstOf}
 use Rattle.rules.specs.Outcome.{refused, written, Accepted, bufferAfter}
 use Rattle.rules.specs.Transfers.{contracts, listTests, turnTests, transferTests, transferRefusal, transferOutcome, volumesAfter, transferred, withVolumes}
 use Rattle.rules.specs.ComplexRecord.{complex}
@@ -27,7 +27,7 @@ use Rattle.rules.specs.Outcome2015.{tests2015, refusal2015, Accepted2015, Limit
 use Rattle.laws.proofs.Arrays.{length-listed}
 use Rattle.laws.proofs.Fields.{Fit}
 use Rattle.laws.proofs.ControlTable.{line-length, entry-right, no-weekday, no-day, table-day}
-use Rattle.laws.proofs.Refusals.{limits}
+use Rattle.laws.proofs.Refusals.{form-limits, form-clear, limits}
 use Rattle.laws.proofs.Answers as Answers
 use Rattle.theorems.specs.Demand1.{First}
 use Rattle.theorems.specs.Demand3.{WorseSheet, NoBetter}
@@ -35,11 +35,15 @@ use Rattle.theorems.specs.Request1.{contractSum, OnlyContracts}
 use Rattle.theorems.proofs.Demand1 as Demand1
 use Rattle.theorems.specs.Request3.{OnlyPeak, HigherDrawn, OnlyLine, NoLower}
 use Rattle.theorems.specs.Request4.{rising, HigherPeaks, NoLower2015}
+use Rattle.theorems.specs.Alike.{Alike}
+use Rattle.theorems.specs.Request5.{FullRows, SameAnswers}
 use Rattle.theorems.proofs.Transfers as Transfers
 use Rattle.theorems.proofs.Averaging as Averaging
 use Rattle.theorems.proofs.Bands as Bands
 use Rattle.theorems.proofs.Consumers as Consumers
 use Rattle.theorems.proofs.Text2015 as Text2015
+use Rattle.theorems.proofs.SameFigures as SameFigures
+use Rattle.theorems.proofs.Version2 as Version2
 
 -- Request 1: transfers of contract volume -------------------------------------------------------------------------------------------
 
@@ -230,3 +234,23 @@ no-lower-2015 = Text2015.no-lower
 -- Two sheets in the relation of demand 3 are such a pair: under this text too a worse month never charges a consumer less.
 pub worse-higher-2015 : (s s′ : List ℕ) → WorseSheet s s′ → HigherPeaks s s′
 worse-higher-2015 = Text2015.worse-higher
+
+-- Request 5: contracts that begin inside a month, sheet version 2 --------------------------------------------------------------------
+
+-- Two sheets that get past number 6 and state the same figures, the days of their rows among them, get the same answers and leave the
+-- same result bytes, whatever their versions.
+pub same-figures-same-answers : (s s′ : List ℕ) → firstOf (formTests s) ≡ 0 → firstOf (formTests s′) ≡ 0 → Alike (monthOf s) (monthOf s′)
+    → SameAnswers s s′
+same-figures-same-answers = SameFigures.same-answers
+
+-- So do a version 1 sheet and the version 2 sheet with the same figures and rows that cover the month.
+pub version-2-full : (s s′ : List ℕ) → firstOf (formTests s) ≡ 0 → firstOf (formTests s′) ≡ 0 → FullRows s s′ → SameAnswers s s′
+version-2-full s s′ form form′ full = SameFigures.same-answers s s′ form form′ (SameFigures.full-alike s s′ full)
+
+-- Every version 1 sheet that gets past number 6 has such a version 2 sheet: the one that inVersion2 writes gets past number 6 too.
+pub version-2-there : (s : List ℕ) → firstOf (formTests s) ≡ 0 → version s ≡ 1
+    → (firstOf (formTests (inVersion2 s)) ≡ 0) × FullRows s (inVersion2 s) × SameAnswers s (inVersion2 s)
+version-2-there s form first =
+    let past = form-clear (inVersion2 s) (Version2.form-after s (form-limits s form) first) in
+    let full = Version2.full-after s (form-limits s form) first in
+    (past, full, version-2-full s (inVersion2 s) form past full)

@@ -173,18 +173,12 @@ module _ (s t : List ℕ) where
       (λ none. record { as-long = long none; kept = kept s (form none) (volumesAfter (monthOf s) t); stays-accepted = stays none })
       (record { as-long = refl; kept = λ i o. refl; stays-accepted = λ bytes a. a })
 
--- Two accepted sheets in demand 3's relation, and one list.
 accepted-own : (s : List ℕ) (bytes : ℕ) → Accepted s bytes → firstOf (sheetTests s) ≡ 0
 accepted-own s bytes a = let l = limits s bytes a in sheet-clear s (l .form) (l .month)
 
-module _ (s s′ t : List ℕ) (w : WorseSheet s s′) where
-  heads : headerOf s′ ≡ headerOf s
-  heads = same-header s s′ (w .header)
-
-  contracts-alike : (c : ℕ) → c < headerOf s .consumers → contracts (monthOf s′) c ≡ contracts (monthOf s) c
-  contracts-alike c b = w .figures .consumer c b .contract
-
-  list-same : firstOf (listTests (headerOf s′ .consumers) t ++ turnTests (contracts (monthOf s′)) t)
+-- Two sheets with one header and the same contract volumes: a list has the same number with both.
+module _ (s s′ t : List ℕ) (heads : headerOf s′ ≡ headerOf s) (contracts-alike : (c : ℕ) → c < headerOf s .consumers → contracts (monthOf s′) c ≡ contracts (monthOf s) c) where
+  pub list-same : firstOf (listTests (headerOf s′ .consumers) t ++ turnTests (contracts (monthOf s′)) t)
       ≡ firstOf (listTests (headerOf s .consumers) t ++ turnTests (contracts (monthOf s)) t)
   list-same =
       ap (λ (h : Header). firstOf (listTests (h .consumers) t ++ turnTests (contracts (monthOf s′)) t)) heads
@@ -203,12 +197,20 @@ module _ (s s′ t : List ℕ) (w : WorseSheet s s′) where
       go true e = turns (eqb-true _ _ e)
       go false e = refl
 
+-- Two accepted sheets in demand 3's relation, and one list.
+module _ (s s′ t : List ℕ) (w : WorseSheet s s′) where
+  heads : headerOf s′ ≡ headerOf s
+  heads = same-header s s′ (w .header)
+
+  contracts-alike : (c : ℕ) → c < headerOf s .consumers → contracts (monthOf s′) c ≡ contracts (monthOf s) c
+  contracts-alike c b = w .figures .consumer c b .contract
+
   module _ (room room′ : ℕ) (a : Accepted s room) (a′ : Accepted s′ room′) where
     same-refusal : transferRefusal s′ t ≡ transferRefusal s t
     unfolding transferRefusal transferTests
     same-refusal =
         sym (first-next (sheetTests s′) _ (sheet-numbered s′) (accepted-own s′ room′ a′))
-        ∙ list-same
+        ∙ list-same s s′ t heads contracts-alike
         ∙ first-next (sheetTests s) _ (sheet-numbered s) (accepted-own s room a)
 
     pub same-answer : transferOutcome s′ t ≡ transferOutcome s t

@@ -4,3 +4,4 @@ pub mod Alike
 pub mod Request1
 pub mod Request3
 pub mod Request4
+pub mod Request5
