@@ -15,13 +15,13 @@ from pathlib import Path
 
 sys.dont_write_bytecode = True
 
-from records import ONE, SINGLE_BUYER, Consumer, Month, Producer, Row, Sheet
+from records import DAY_ROWS, FULL_ROWS, ONE, SINGLE_BUYER, Consumer, Month, Producer, Row, Sheet
 
 CRATES = Path(__file__).resolve().parent.parent / "crates"
 
 
-def sheet(days, weekday, holidays=0, producers=(), rows=(), consumers=()):
-    return Sheet(Month(days, weekday, holidays), list(producers), list(rows), list(consumers)).to_bytes()
+def sheet(days, weekday, holidays=0, producers=(), rows=(), consumers=(), version=FULL_ROWS):
+    return Sheet(Month(days, weekday, holidays), list(producers), list(rows), list(consumers), version).to_bytes()
 
 
 def producer(attested, deductible, own_needs, missing, given, hours):
@@ -85,13 +85,14 @@ def zeros():
 
 
 def largest():
-    """The largest sheet, 54,634 bytes, with the largest payments, totals, volumes and charges."""
+    """The largest sheet, 54,698 bytes of version 2, with the largest payments, totals, volumes and charges."""
     full = [(100000, 100000, 0)] * (24 * 31)
     return sheet(
         31, 1,
         producers=[producer(100000, 0, 100000, (0, 0, 0), (ONE,) * 6, full)] * 6,
-        rows=[Row(j % 6, SINGLE_BUYER, 100000, 200000000) for j in range(32)],
+        rows=[Row(j % 6, SINGLE_BUYER, 100000, 200000000, 1, 31) for j in range(32)],
         consumers=[Consumer(0, 100000, 31, 31, 100, 200000000)] * 32,
+        version=DAY_ROWS,
     )
 
 
