@@ -10,9 +10,10 @@ from typing import NamedTuple
 from changing import Change
 from inputs import CHANGES, Given
 from printing import WEEKDAYS, party_cells, table_lines
-from records import CAPACITY, PRICE, SINGLE_BUYER, SINGLE_BUYER_WORDS, Header, Sheet
+from records import CAPACITY, PRICE, SINGLE_BUYER, SINGLE_BUYER_WORDS, Header, Sheet, states_days
 from results import OF_2021, OF_2015, Edition, texts_of
 
+ROW_DAYS = "first_day", "last_day"
 # The columns of a table, with their units, by the keys of the figures.
 HEADS = {"volume": ("volume", "MW"), "volume_after_cut": ("after the cut", "MW"), "contract_volume": ("contract", "MW"),
          "peak": ("peak", "MW"), "credit": ("credit", "MW"), "percent": ("percent", ""), "n": ("n", ""),
@@ -22,7 +23,7 @@ REFUSAL_COLUMNS = ("refusal", "words", "byte", "field", *(key for kind in CHANGE
 COLUMNS = {
     OF_2021: ("month", "record", "row", "producer", "producer_name", "consumer", "consumer_name", "volume",
                "contract_volume", "peak", "price", "volume_after_cut", "credit", "percent", "n", "actual_volume",
-               "payment", "charge", *REFUSAL_COLUMNS),
+               "payment", "charge", *REFUSAL_COLUMNS, *ROW_DAYS),
     OF_2015: ("month", "text", "record", "consumer", "consumer_name", "contract_volume", "peak", "price", "factor",
               "volume", "charge", *REFUSAL_COLUMNS),
 }
@@ -67,7 +68,8 @@ def records_of(answer):
         "row": number, "producer": row.producer, "producer_name": names.of("producer", row.producer),
         "consumer": SINGLE_BUYER_WORDS if row.consumer == SINGLE_BUYER else row.consumer,
         "consumer_name": names.of("consumer", row.consumer),
-        "volume": CAPACITY.text(row.volume), "price": PRICE.text(row.price), **keyed(edition.rows, figures),
+        "volume": CAPACITY.text(row.volume), "price": PRICE.text(row.price),
+        **dict(zip(ROW_DAYS, row.days(sheet.month))), **keyed(edition.rows, figures),
     } for number, (row, figures) in enumerate(zip(sheet.rows, rows))]
     by_consumer = [{
         "consumer": number, "consumer_name": names.of("consumer", number),
@@ -112,11 +114,15 @@ def month_lines(answer):
 
 
 def row_lines(given, edition, by_row, totals):
-    columns = columns_of(("volume",), edition.rows)
-    parties = [party_cells(row, given.names) for row in Sheet.from_bytes(given.content).rows]
-    lines = [[str(row["row"]), *party, *cells_of(row, columns)] for row, party in zip(by_row, parties)]
-    lines.append(["", "total paid", *[""] * len(columns), parted(totals["paid"])])
-    return headed(("row", "producer", "buyer"), columns, lines, (1, 2))
+    """The rows, with a column for their days where the sheet states them, and the total."""
+    sheet, columns = Sheet.from_bytes(given.content), columns_of(("volume",), edition.rows)
+    heads = ("row", "producer", "buyer", *(["days"] if states_days(sheet.version) else []))
+    lines = []
+    for row, contract in zip(by_row, sheet.rows):
+        days = [f"{contract.first_day}-{contract.last_day}"] if "days" in heads else []
+        lines.append([str(row["row"]), *party_cells(contract, given.names), *days, *cells_of(row, columns)])
+    lines.append(["", "total paid", *[""] * (len(heads) + len(columns) - 3), parted(totals["paid"])])
+    return headed(heads, columns, lines, (1, 2))
 
 
 def consumer_lines(given, edition, by_consumer, totals):

@@ -9,22 +9,30 @@ import os
 import re
 from array import array
 from contextlib import contextmanager
-from typing import NamedTuple
+from functools import partial
+from typing import Callable, NamedTuple
 
 from files import CHECK, Trouble, read_text
 from kinds import begun_as, kind_of
 from names import LONGEST_NAME, Names, wrong_character
-from records import (BUYER, CONSUMER_FIELDS, DAYS, HEADER_FIELDS, HOUR_FIELDS, HOURS, PLAIN, PRODUCER_FIELDS,
-                     PRODUCER_NUMBER, ROW_FIELDS, SINGLE_BUYER, SINGLE_BUYER_WORDS, Consumer, Month, Producer, Row,
-                     Sheet)
+from records import (BUYER, CONSUMER_FIELDS, DAY_ROWS, DAYS, FULL_ROWS, HEADER_FIELDS, HOUR_FIELDS, HOURS, PLAIN,
+                     PRODUCER_FIELDS, PRODUCER_NUMBER, ROW_DAY, ROW_DAY_FIELDS, ROW_FIELDS, SINGLE_BUYER,
+                     SINGLE_BUYER_WORDS, Consumer, Month, Producer, Row, Sheet, row_fields, states_days)
 
 MONTH_FIELDS = [field for field in HEADER_FIELDS if field.key in ("days", "weekday")]
-TOP_KEYS = ("year", "month", "days", "weekday", "holidays", "producer", "row", "consumer")
+TOP_KEYS = ("year", "month", "days", "weekday", "holidays", "version", "producer", "row", "consumer")
 MOST_RECORDS = 255      # that a count byte holds
 LAST_HOLIDAY = 32       # the last day that the holidays' bits can name
 MOST_LINES = 3          # of a CSV file of hours that are told as wrong one by one
 NUMBER = re.compile(r"([0-9]+)(?:\.([0-9]+))?")
 DATE = re.compile(r"[0-9]{4}-[0-9]{2}-[0-9]{2}")
+
+
+def keys_of(fields):
+    return tuple(field.key for field in fields)
+
+
+DAY_KEYS = keys_of(ROW_DAY_FIELDS)
 
 
 @contextmanager
@@ -104,15 +112,21 @@ def number_of(text, unit):
     return int((whole + part.ljust(unit.decimals, "0")) or "0")
 
 
-def read_figures(table, fields, faults):
+def read_figures(table, fields, faults, figure=figure_of):
     """The figures of a table, in the order of the fields, as far as they can be read."""
     figures = []
     for field in fields:
         if field.key in table:
             with faults.part(), at(field.key):
-                figures.append(buyer_of(table[field.key], field) if field.unit is BUYER
-                               else figure_of(table[field.key], field))
+                figures.append(figure(table[field.key], field))
     return figures
+
+
+def row_figure(value, field, known):
+    """A figure of a row. known: the KnownMonth, or None if it cannot be read."""
+    if field.unit is BUYER:
+        return buyer_of(value, field)
+    return row_day_of(value, field, known) if field.unit is ROW_DAY else figure_of(value, field)
 
 
 def buyer_of(value, field):
@@ -123,6 +137,14 @@ def buyer_of(value, field):
     if number == SINGLE_BUYER:
         raise Trouble(f'{shown(value)} stands for the single buyer in a sheet; in a text write "{SINGLE_BUYER_WORDS}"')
     return number
+
+
+def row_day_of(value, field, known):
+    """A row's first or last day: a date of the month, or a number, which the field may hold though no month does."""
+    date = date_of(value)
+    if date is None:
+        return figure_of(value, field)
+    return day_of_date(date, known.dates) if known else date.day
 
 
 # ------------------------------------------------------------------ from text to a sheet
@@ -143,23 +165,23 @@ def read_sheet(path):
 
 
 def read_month_text(path):
-    table, files, faults = read_toml(path), [path], Faults()
+    table, files, faults, known = read_toml(path), [path], Faults(), None
     with at(path):
-        month = title = None
         with faults.part():
             check_keys(table, TOP_KEYS, needed=())
         with faults.part():
-            month, title = read_month(table)
-        producers = read_tables(table, "producer", PRODUCER_FIELDS, faults)
-        hours = [read_hours(each, month, path, files, faults) for each in producers]
-        rows = read_tables(table, "row", ROW_FIELDS, faults)
-        consumers = read_tables(table, "consumer", CONSUMER_FIELDS, faults)
+            known = read_month(table)
+        producers = read_tables(table, PRODUCERS, faults)
+        hours = [read_hours(each, known and known.month, path, files, faults) for each in producers]
+        rows = read_tables(table, ROWS._replace(figure=partial(row_figure, known=known)), faults)
+        consumers = read_tables(table, CONSUMERS, faults)
+        version = read_version(table, rows, faults)
         faults.tell()
-    sheet = Sheet(month, [Producer.of(each.figures, powers) for each, powers in zip(producers, hours)],
-                  [Row(*each.figures) for each in rows], [Consumer(*each.figures) for each in consumers])
+    sheet = Sheet(known.month, [Producer.of(each.figures, powers) for each, powers in zip(producers, hours)],
+                  [Row(*each.figures) for each in rows], [Consumer(*each.figures) for each in consumers], version)
     names = Names(*({number: each.name for number, each in enumerate(tables) if each.name}
                     for tables in (producers, consumers)))
-    return Text(sheet, names, title, files)
+    return Text(sheet, names, known.title, files)
 
 
 def read_toml(path):
@@ -185,8 +207,15 @@ def check_keys(table, known, needed):
     faults.tell()
 
 
+class KnownMonth(NamedTuple):
+    """What a text says of its month."""
+    month: Month
+    title: str
+    dates: tuple    # the year and the month; None if the text gives days and weekday
+
+
 def read_month(table):
-    """The month, and its title."""
+    """The KnownMonth of a text."""
     faults = Faults()
     by_dates = "year" in table or "month" in table
     if by_dates:
@@ -197,18 +226,18 @@ def read_month(table):
         figures = [number_between(table, *each, faults) for each in (("year", 1, 9999), ("month", 1, 12))]
     else:
         with faults.part(), at("without year and month"):
-            check_keys(table, table, needed=[field.key for field in MONTH_FIELDS])
+            check_keys(table, table, needed=keys_of(MONTH_FIELDS))
         figures = read_figures(table, MONTH_FIELDS, faults)
     with faults.part():
         check_keys(table, table, needed=["holidays"])
     faults.tell()
     with at("holidays"):
         if not by_dates:
-            return Month(*figures, read_holidays(table["holidays"], figures[0], None)), ""
-        year, number = figures
+            return KnownMonth(Month(*figures, read_holidays(table["holidays"], figures[0], None)), "", None)
+        year, number = dates = tuple(figures)
         before, days = calendar.monthrange(year, number)
         title = f"{calendar.month_name[number]} {year}"
-        return Month(days, before + 1, read_holidays(table["holidays"], days, (year, number))), title
+        return KnownMonth(Month(days, before + 1, read_holidays(table["holidays"], days, dates)), title, dates)
 
 
 def number_between(table, key, low, high, faults):
@@ -226,52 +255,98 @@ def read_holidays(values, days, dates):
         raise Trouble("is no list; a month without a holiday has holidays = []")
     bits = 0
     for value in values:
-        day = day_of(value, days, dates)
+        day = holiday_of(value, days, dates)
         if bits >> day - 1 & 1:
             raise Trouble(f"day {day} stands there twice")
         bits |= 1 << day - 1
     return bits
 
 
-def day_of(value, days, dates):
+def holiday_of(value, days, dates):
     """The day of the month. Where only its days are given, one past them can be named, since the sheet can hold it."""
-    if isinstance(value, str) and DATE.fullmatch(value):
-        try:
-            value = datetime.date.fromisoformat(value)
-        except ValueError:
-            raise Trouble(f"{shown(value)} is no date") from None
-    if isinstance(value, datetime.date) and not isinstance(value, datetime.datetime):
-        if dates is None:
-            raise Trouble(f"{value} is a date, which needs year and month; with days and weekday give the day's number")
-        if (value.year, value.month) != dates:
-            raise Trouble(f"{value} is outside the month")
-        return value.day
+    date = date_of(value)
+    if date is not None:
+        return day_of_date(date, dates)
     last = LAST_HOLIDAY if dates is None else days
     if not is_whole(value) or not 1 <= value <= last:
         raise Trouble(f"{shown(value)} is neither a date nor a day from 1 to {last}")
     return value
 
 
+def date_of(value):
+    """A date, in quotes or without; None of a value that is none."""
+    if isinstance(value, str) and DATE.fullmatch(value):
+        try:
+            return datetime.date.fromisoformat(value)
+        except ValueError:
+            raise Trouble(f"{shown(value)} is no date") from None
+    return value if isinstance(value, datetime.date) and not isinstance(value, datetime.datetime) else None
+
+
+def day_of_date(date, dates):
+    """The day of a date, which is to be one of the month."""
+    if dates is None:
+        raise Trouble(f"{date} is a date, which needs year and month; with days and weekday give the day's number")
+    if (date.year, date.month) != dates:
+        raise Trouble(f"{date} is outside the month")
+    return date.day
+
+
+class Form(NamedTuple):
+    """What the tables of a kind have."""
+    kind: str
+    fields: tuple
+    needed: tuple                   # keys that must be there
+    optional: tuple                 # and those that may be left out
+    figure: Callable = figure_of    # of a value and its field
+
+
+PRODUCERS = Form("producer", PRODUCER_FIELDS, (*keys_of(PRODUCER_FIELDS), "hours"), ("name",))
+ROWS = Form("row", ROW_FIELDS + ROW_DAY_FIELDS, keys_of(ROW_FIELDS), DAY_KEYS)
+CONSUMERS = Form("consumer", CONSUMER_FIELDS, keys_of(CONSUMER_FIELDS), ("name",))
+
+
 class Table:
     """A producer, row or consumer of the text."""
 
-    def __init__(self, kind, number, keys, fields, faults):
-        self.place, self.keys, self.name = f"{kind} {number}", keys, None     # place: in messages
-        needed = [field.key for field in fields] + ["hours"] * (kind == "producer")
-        named = kind != "row"
+    def __init__(self, form, number, keys, faults):
+        self.place, self.keys, self.name = f"{form.kind} {number}", keys, None     # place: in messages
         own = Faults()
         with own.part():
-            check_keys(keys, needed + ["name"] * named, needed)
-        self.figures = read_figures(keys, fields, own)
-        if named and "name" in keys:
+            check_keys(keys, (*form.needed, *form.optional), form.needed)
+        if form.kind == "row":
+            with own.part():
+                check_days(keys)
+        self.figures = read_figures(keys, form.fields, own, form.figure)
+        if "name" in form.optional and "name" in keys:
             with own.part(), at("name"):
                 self.name = read_name(keys["name"])
         with faults.part(), at(self.place):
             own.tell()
 
 
-def read_tables(table, kind, fields, faults):
+def check_days(keys):
+    """A row states both of its days, or none."""
+    for day, other in (DAY_KEYS, DAY_KEYS[::-1]):
+        if day in keys and other not in keys:
+            raise Trouble(f"{day}: stands without {other}; a row has both, or none if it covers the month")
+
+
+def read_version(table, rows, faults):
+    """The version that the text states, or else the one that its rows ask for."""
+    with_days = next((row.place for row in rows if not row.keys.keys().isdisjoint(DAY_KEYS)), None)
+    if "version" not in table:
+        return DAY_ROWS if with_days else FULL_ROWS
+    version = number_between(table, "version", FULL_ROWS, DAY_ROWS, faults)
+    if version == FULL_ROWS and with_days:
+        faults.lines.append(f"version: is {FULL_ROWS}, where every row covers the month, but {with_days} states its "
+                            f"days; that is version {DAY_ROWS}, also if the key is left out")
+    return version
+
+
+def read_tables(table, form, faults):
     """The producers, the rows or the consumers, in their order, as far as they can be read."""
+    kind = form.kind
     tables, found = table.get(kind, []), []
     if isinstance(tables, dict):
         faults.lines.append(f"{kind}: each one begins with [[{kind}]], in two brackets")
@@ -280,7 +355,7 @@ def read_tables(table, kind, fields, faults):
     elif len(tables) > MOST_RECORDS:
         faults.lines.append(f"{kind}: there are {len(tables)}; the count byte holds at most {MOST_RECORDS}")
     else:
-        found.extend(Table(kind, number, keys, fields, faults) for number, keys in enumerate(tables))
+        found.extend(Table(form, number, keys, faults) for number, keys in enumerate(tables))
     return found
 
 
@@ -306,7 +381,7 @@ def read_hours(table, month, path, files, faults):
         return None     # the missing key was told
     with faults.part(), at(table.place), at("hours"):
         if isinstance(hours, dict):
-            known, wrong = [field.key for field in HOUR_FIELDS], Faults()
+            known, wrong = keys_of(HOUR_FIELDS), Faults()
             with wrong.part():
                 check_keys(hours, known, known)
             figures = read_figures(hours, HOUR_FIELDS, wrong)
@@ -336,7 +411,7 @@ def read_csv(path, hours):
 
 
 def csv_head(fields):
-    return ",".join(field.key for field in fields)
+    return ",".join(keys_of(fields))
 
 
 def text_lines(path):
@@ -407,7 +482,7 @@ HEAD = """\
 # A month's sheet as text. Capacities, powers, volumes and peaks in MW, prices in tenge per MW and month.
 # Producers, rows and consumers stand in the order of the sheet and are numbered from 0.
 """
-BARE_UNITS = (PLAIN, HOURS, DAYS, PRODUCER_NUMBER, BUYER)     # written without quotes
+BARE_UNITS = (PLAIN, HOURS, DAYS, ROW_DAY, PRODUCER_NUMBER, BUYER)     # written without quotes
 
 
 def text_files(sheet, path):
@@ -417,6 +492,8 @@ def text_files(sheet, path):
     days = [day for day in range(1, LAST_HOLIDAY + 1) if month.holidays >> day - 1 & 1]
     parts = [HEAD, f"\ndays = {month.days}\n", f"weekday = {month.weekday}  # of day 1, Monday 1 to Sunday 7\n",
              f"holidays = {days}\n"]
+    if states_days(sheet.version) and not sheet.rows:
+        parts.append(f"version = {sheet.version}  # follows from the rows' days, if there is a row\n")
     for number, producer in enumerate(sheet.producers):
         lines = table_lines("producer", number, PRODUCER_FIELDS, producer)
         hours = list(zip(*producer.powers()))
@@ -429,7 +506,7 @@ def text_files(sheet, path):
             lines.append(f"hours = {quoted(os.path.basename(file))}\n")
         parts.extend(lines)
     for number, row in enumerate(sheet.rows):
-        parts.extend(table_lines("row", number, ROW_FIELDS, row))
+        parts.extend(table_lines("row", number, row_fields(sheet.version), row))
     for number, consumer in enumerate(sheet.consumers):
         parts.extend(table_lines("consumer", number, CONSUMER_FIELDS, consumer))
     return {**files, path: text_bytes(parts, path)}

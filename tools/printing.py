@@ -1,13 +1,12 @@
 """A sheet as tables for people."""
 from names import NO_NAMES, width
-from records import (CAPACITY, CONSUMER_FIELDS, HEADER, HEADER_FIELDS, PRODUCER_FIELDS, ROW_FIELDS, SINGLE_BUYER,
-                     SINGLE_BUYER_WORDS, Header, Sheet)
+from records import (CAPACITY, CONSUMER_FIELDS, HEADER, HEADER_FIELDS, PRODUCER_FIELDS, SINGLE_BUYER,
+                     SINGLE_BUYER_WORDS, Header, Sheet, row_fields)
 
 WEEKDAYS = ("Monday", "Tuesday", "Wednesday", "Thursday", "Friday", "Saturday", "Sunday")
 PRODUCER_HEADS = ("producer", "attested", "deductible", "own needs", "no upward bid", "no downward bid", "no plan",
                   "k3", "k6", "k7", "k8", "k9", "k10")
 HOUR_HEADS = ("producer", "working", "possible", "outside", "control hours", "control average")
-ROW_HEADS = ("row", "producer", "consumer", "volume", "price")
 CONSUMER_HEADS = ("consumer", "contract", "peak", "supplier's days", "grid's days", "z", "price")
 
 # ------------------------------------------------------------------ tables
@@ -35,14 +34,15 @@ def sheet_lines(content, names=NO_NAMES):
     if len(content) < HEADER:
         return lines
     header, sheet = Header.from_bytes(content), Sheet.from_bytes(content)
+    of_row = row_fields(header.version)
     hours = (f"Hours, the powers of {header.month.hours} hours summed, in MWh; "
              "outside use averaged over control hours, in MW")
     for title, heads, records, kind, cells_of in (
         ("Producers, in MW; counts of hours; coefficients", PRODUCER_HEADS, sheet.producers, "producer",
          lambda producer: cells(PRODUCER_FIELDS, producer)),
         (hours, HOUR_HEADS, sheet.producers, "producer", lambda producer: hour_cells(producer, header.month)),
-        ("Rows, in MW; prices in tenge", ROW_HEADS, sheet.rows, "row",
-         lambda row: [*party_cells(row, names), *cells(ROW_FIELDS, row)[2:]]),
+        ("Rows, in MW; prices in tenge", ("row", *(field.words for field in of_row)), sheet.rows, "row",
+         lambda row: [*party_cells(row, names), *cells(of_row, row)[2:]]),
         ("Consumers, in MW; mining days; prices in tenge", CONSUMER_HEADS, sheet.consumers, "consumer",
          lambda consumer: cells(CONSUMER_FIELDS, consumer)),
     ):

@@ -199,11 +199,15 @@ def broken_rule(entry, header, before):
         return 12, f"at most {header.days}"
     if unit is Z and not LOWEST_Z <= figure <= TOP_Z:
         return 12, f"from {unit.text(LOWEST_Z)} to {unit.text(TOP_Z)}"
-    if unit is ROW_DAY and entry.field.key == "first_day" and figure < 1:
-        return 18, "from 1"
-    if unit is ROW_DAY and entry.field.key == "last_day" and not before <= figure <= header.days:
-        return 18, f"from the first day, {before}, to {header.days}"
-    return None
+    return broken_day(entry, header.days, before) if unit is ROW_DAY else None
+
+
+def broken_day(entry, days, before):
+    """Number 18. A first day past the month's end leaves no day to be the last, so it is told itself."""
+    lowest, words = 1, "1"
+    if entry.field.key == "last_day" and 1 <= before <= days:
+        lowest, words = before, f"the first day, {before},"
+    return None if lowest <= entry.figure <= days else (18, f"from {words} to {days}")
 
 
 def figure_refusals(content):

@@ -11,6 +11,7 @@ from records import (CAPACITY, PRICE, SINGLE_BUYER, Z, Header, figures_of_result
 
 REFUSED = re.compile(r"N([0-9]+)\n")
 FIGURE = re.compile(r"[0-9]+\.[0-9]+")
+MILLIONTHS = 100_000    # of a megawatt in a tenth of one
 
 # ------------------------------------------------------------------ a result against its sheet
 
@@ -42,7 +43,7 @@ def impossible(rows, consumers, totals, sheet=None):
     """What no settlement gives, in words: each figure is held against those that it is worked out from. Without the
     sheet, only what a result tells of itself."""
     for number, row in enumerate(rows):
-        for words in row_faults(row, sheet and sheet.rows[number]):
+        for words in row_faults(row, number, sheet):
             yield f"row {number}: {words}"
     for number, consumer in enumerate(consumers):
         for words in consumer_faults(consumer, number, rows, sheet) if sheet else own_faults(consumer):
@@ -53,15 +54,27 @@ def impossible(rows, consumers, totals, sheet=None):
             yield f"totals: {words} {PRICE.text(total)} is not the sum of the lines, {PRICE.text(sum(figures))}"
 
 
-def row_faults(row, given):
+def row_faults(row, number, sheet):
     if row.actual > row.after_cut:
         yield (f"actual volume {CAPACITY.text(row.actual)} is above the volume after the cut, "
                f"{CAPACITY.text(row.after_cut)}")
-    if given is None:
+    if sheet is None:
         return
+    given = sheet.rows[number]
     if row.after_cut > given.volume:
         yield f"volume after the cut {CAPACITY.text(row.after_cut)} is above the sheet's, {CAPACITY.text(given.volume)}"
+    yield from days_faults(row, *given.days(sheet.month), sheet.month.days)
     yield from money_faults("payment", row.payment, "actual volume", row.actual, given.price)
+
+
+def days_faults(row, first_day, last_day, days):
+    """No coefficient is above 1, so the days covered leave at most their share of the volume after the cut, which is
+    rounded to a millionth and then to a tenth."""
+    covered = last_day - first_day + 1
+    most = rounded(rounded(MILLIONTHS * row.after_cut * covered, days), MILLIONTHS)
+    if most < row.actual <= row.after_cut:
+        yield (f"actual volume {CAPACITY.text(row.actual)} is above the volume after the cut × days covered / days of "
+               f"the month, {CAPACITY.text(row.after_cut)} × {covered} / {days} = {CAPACITY.text(most)}")
 
 
 def money_faults(words, money, volume_words, volume, price):

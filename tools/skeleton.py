@@ -13,6 +13,11 @@ year = {year}
 month = {month}
 holidays = []  # dates, as {year:04}-{month:02}-01
 """
+# Under a row: two keys that may be left out.
+ROW_DAYS = """\
+# first_day = 1  # both, if the contract begins or ends inside the month
+# last_day = {days}
+"""
 # What stands for a figure that is not 0 from the start, and remarks.
 FIRST = {"producer": "0", "consumer": f'"{SINGLE_BUYER_WORDS}"'}
 BY_UNIT = {COEFFICIENT: '"1.0"', Z: '"1.0"', CAPACITY: '"0.0"', PRICE: '"0.00"'}
@@ -37,7 +42,7 @@ def skeleton_files(year, month, path, counts):
         parts += table("producer", number, PRODUCER_FIELDS)
         parts.append(f"hours = {quoted(os.path.basename(file))}  # MW, a line for each of the {24 * days} hours\n")
     for number in range(rows):
-        parts += table("row", number, ROW_FIELDS, producer=str(number % producers))
+        parts += [*table("row", number, ROW_FIELDS, producer=str(number % producers)), ROW_DAYS.format(days=days)]
     for number in range(consumers):
         parts += table("consumer", number, CONSUMER_FIELDS)
     return {**files, path: text_bytes(parts, path)}

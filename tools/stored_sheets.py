@@ -15,13 +15,14 @@ from pathlib import Path
 
 sys.dont_write_bytecode = True
 
-from records import ONE, SINGLE_BUYER, Consumer, Month, Producer, Row, Sheet
+from records import DAY_ROWS, FULL_ROWS, ONE, SINGLE_BUYER, Consumer, Month, Producer, Row, Sheet
 
 CRATES = Path(__file__).resolve().parent.parent / "crates"
+IDLE = [(0, 0, 0)] * (24 * 28)    # hours of 28 days
 
 
-def sheet(days, weekday, holidays=0, producers=(), rows=(), consumers=()):
-    return Sheet(Month(days, weekday, holidays), list(producers), list(rows), list(consumers)).to_bytes()
+def sheet(days, weekday, holidays=0, producers=(), rows=(), consumers=(), version=FULL_ROWS):
+    return Sheet(Month(days, weekday, holidays), list(producers), list(rows), list(consumers), version).to_bytes()
 
 
 def producer(attested, deductible, own_needs, missing, given, hours):
@@ -64,12 +65,34 @@ def month():
     )
 
 
+def inside_month():
+    """Version 2, 30 days: rows that begin, end or lie inside the month, cover its first or last day alone, or all of
+    it. The first is cut in part."""
+    hours = [(1700 + 13 * i % 307, 1900 + 3 * i % 101, 60 + i % 9) for i in range(24 * 30)]
+    return sheet(
+        30, 3, 1 << 14,
+        producers=[producer(1800, 60, 10, (6, 0, 1), (ONE, 998765, ONE, ONE, 999999, ONE), hours)],
+        rows=[
+            Row(0, SINGLE_BUYER, 900, 61234567, 10, 30),
+            Row(0, 0, 333, 58000001, 1, 15),
+            Row(0, 1, 257, 59999999, 7, 19),
+            Row(0, 0, 100, 60000000, 1, 1),
+            Row(0, 1, 101, 60000000, 30, 30),
+            Row(0, SINGLE_BUYER, 201, 57500050, 1, 30),
+        ],
+        consumers=[
+            Consumer(200, 450, 0, 0, 10, 61000000),
+            Consumer(150, 300, 0, 1, 12, 61000000),
+        ],
+        version=DAY_ROWS,
+    )
+
+
 def zeros():
     """A month of noughts: idle hours, volumes, prices, peaks and a coefficient of 0."""
-    idle = [(0, 0, 0)] * (24 * 28)
     return sheet(
         28, 1,
-        producers=[producer(1000, 0, 0, (0, 0, 0), (0, ONE, ONE, ONE, ONE, ONE), idle)],
+        producers=[producer(1000, 0, 0, (0, 0, 0), (0, ONE, ONE, ONE, ONE, ONE), IDLE)],
         rows=[
             Row(0, SINGLE_BUYER, 0, 0),
             Row(0, 0, 0, 60000000),
@@ -85,19 +108,31 @@ def zeros():
 
 
 def largest():
-    """The largest sheet, 54,634 bytes, with the largest payments, totals, volumes and charges."""
+    """The largest sheet, 54,698 bytes of version 2, with the largest payments, totals, volumes and charges."""
     full = [(100000, 100000, 0)] * (24 * 31)
     return sheet(
         31, 1,
         producers=[producer(100000, 0, 100000, (0, 0, 0), (ONE,) * 6, full)] * 6,
-        rows=[Row(j % 6, SINGLE_BUYER, 100000, 200000000) for j in range(32)],
+        rows=[Row(j % 6, SINGLE_BUYER, 100000, 200000000, 1, 31) for j in range(32)],
         consumers=[Consumer(0, 100000, 31, 31, 100, 200000000)] * 32,
+        version=DAY_ROWS,
+    )
+
+
+def refused_18():
+    """Version 2: a row ends on day 29 of 28; all else is accepted."""
+    return sheet(
+        28, 1,
+        producers=[producer(1000, 0, 0, (0, 0, 0), (ONE,) * 6, IDLE)],
+        rows=[Row(0, SINGLE_BUYER, 10, 10, 1, 28), Row(0, SINGLE_BUYER, 10, 10, 28, 29)],
+        version=DAY_ROWS,
     )
 
 
 # In the order of the program.
 STORED = {
     "month": month(),
+    "inside_month": inside_month(),
     "zeros": zeros(),
     "largest": largest(),
     "header": sheet(28, 1),
@@ -105,6 +140,7 @@ STORED = {
     "refused_2": example()[:-1],
     "refused_9": sheet(28, 1, consumers=[Consumer(0, 100001, 0, 0, 10, 0)]),
     "refused_12": sheet(28, 1, consumers=[Consumer(0, 0, 0, 0, 9, 0)]),
+    "refused_18": refused_18(),
 }
 
 

@@ -15,7 +15,8 @@ WRONG = [
                       'supplier_mining_days = 29, z = "0.9", price = "2000000.01" } ]'),
     ("[[consumer]]" + GOOD.split("[[consumer]]")[1], ""),
     ("bid = 72", "bid = 673"), ("bid = 36", "bid = 700"), ('k3 = "0.985"', 'k3 = "1.000001"'),
-    (CONSTANT, 'hours = "hours.csv"'), ('price = "1000.05"', 'price = "2000000.02"'), ('"single buyer"', "7"),
+    (CONSTANT, 'hours = "hours.csv"'), ('"single buyer"', "7"),
+    ('price = "1000.05"', 'price = "2000000.02"\nfirst_day = 0\nlast_day = 29'),
     ("[[producer]]", '[[producer]]\nname = "North"'),
 ]
 ALL_WRONG = """\
@@ -35,6 +36,9 @@ refusal 11: a price is above 2000000.00 tenge
 refusal 12: mining days are above the days of the month, or z is outside 1.0 to 10.0
   consumer 0, mining days of the supplier, 29 days (at most 28)
   consumer 0, z, 0.9 (from 1.0 to 10.0)
+refusal 18: a row's first day is 0, or its last day is before the first or after the month's end
+  row 0, first day, 0 (from 1 to 28)
+  row 0, last day, 29 (from 1 to 28)
 """
 # Changes of the good text, and the line that check then has under "legal, but unlikely".
 UNLIKELY = [
@@ -84,7 +88,7 @@ def test_check(folder):
               f"check: {path.stem}", words_of(done))
     done = sheet("check", EXAMPLES / "refused-2.sheet")
     check(b"nothing after the header was looked at" in done.stdout, "check: no places", words_of(done))
-    header = bytes.fromhex("0000000e 02 1b 08 ffffffff 00 00 00")
+    header = bytes.fromhex("0000000e 09 1b 08 ffffffff 00 00 00")
     done = sheet("check", "-", stdin=header)
     numbers = [refusal.number for refusal in refusals.all_refusals(header)]
     check(numbers == [3] + [4] * 7 and done.stdout.count(b"\n") == 2 + len(numbers), "check: every fault of a header",
@@ -140,6 +144,7 @@ def test_new(folder):
     check(counts == [2, 4, 3] and text.title == "December 2021", "new: the counts and the month", str(counts))
     done = sheet("check", "2021-12.toml", folder=folder)
     check(done.returncode == 0 and done.stdout.startswith(b"accepted\n"), "new: is accepted", words_of(done))
+    check_new_days(folder / "2021-12.toml")
     for counts in ((0, 0, 0), (6, 32, 32), (1, 32, 0), (0, 0, 32)):
         words = [word for pair in zip(("--producers", "--rows", "--consumers"), counts) for word in pair]
         done = sheet("new", "0001-02", "a b.toml", *words, "--force", folder=folder)
@@ -158,6 +163,18 @@ def test_new(folder):
     done = run(SHEET, "new", "2022-02", "\udcff.toml", folder=folder)
     check(done.returncode == 1 and b"is not text in UTF-8" in done.stderr, "new: a name that is no text",
           words_of(done))
+
+
+def check_new_days(path):
+    """The days of a row stand in the text as remarks, which can be taken as they are."""
+    without, text = monthtext.read_sheet(str(path))[0], path.read_text()
+    check(text.count("# first_day = 1 ") == text.count("# last_day = 31\n") == 4, "new: the days of each row", text)
+    path.write_text(text.replace("# first_day", "first_day").replace("# last_day", "last_day"))
+    stated, _ = monthtext.read_sheet(str(path))
+    days = [(row.first_day, row.last_day) for row in stated.rows]
+    check((without.version, stated.version, days) == (1, 2, [(1, 31)] * 4), "new: the days are stated", str(days))
+    check(refusals.all_refusals(stated.to_bytes()) == [], "new: with days it is accepted")
+    path.write_text(text)
 
 
 def test_named():
@@ -202,7 +219,7 @@ def test_order():
     kept = refusals.TRIED
     try:
         check(refusals.first_refusal(content).number == 8, "refusals: 8 before 9")
-        refusals.TRIED = (1, 2, 3, 4, 5, 6, 7, 9, 8, 10, 11, 12)
+        refusals.TRIED = (1, 2, 3, 4, 5, 6, 7, 9, 8, 10, 11, 12, 18)
         check(refusals.first_refusal(content).number == 9, "refusals: the order is the list's")
         check(refusals.tried_before(8)[-1] == 9 and refusals.tried_from(9)[1] == 8, "refusals: before and after")
     finally:

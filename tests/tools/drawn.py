@@ -1,7 +1,10 @@
-"""Sheets of the comparison's drawing: explain against the rival, and the way to text and back."""
+"""Sheets of the comparison's drawing, and the same with drawn days in version 2: explain against the rival, and the way
+to text and back."""
 import os
+import random
 import tempfile
 from array import array
+from collections import Counter
 from pathlib import Path
 
 import monthtext
@@ -13,17 +16,41 @@ from checks import SHEET, check, files_in, run, sheet, words_of
 
 SEED = 20211022
 DRAWN = 1000
-ROUND_TRIPS = 400   # of the drawn sheets; most get past refusal 6
-BY_COMMAND = 12     # of these go through the commands
+WITH_DAYS = 200     # of the drawn sheets are taken with days too
+ROUND_TRIPS = 400   # of the drawn sheets, beside those with days; most get past refusal 6
+BY_COMMAND = 6      # of these, of each version, go through the commands
 MOST_REPAIRS = 12   # of one sheet
 
 
 def draw():
     """The sheets of a seed as the program is handed them, with the rival's answers in a buffer that is long enough."""
-    cases = [case._replace(sheet=case.sheet[:refusals.HANDED_OVER], buffer=sheets.LONGEST_BUFFER)
+    drawn = [case._replace(sheet=case.sheet[:refusals.HANDED_OVER], buffer=sheets.LONGEST_BUFFER)
              for case in sheets.KINDS.cases(SEED, DRAWN)]
+    full, rng = [case for case in drawn if covers_month(case.sheet)], random.Random(SEED)
+    cases = [with_days(case, rng) for case in full[:WITH_DAYS]] + drawn
     with tempfile.TemporaryDirectory() as folder:
         return cases, programs.rival_answers(cases, folder)
+
+
+def covers_month(content):
+    """Whether a sheet's rows can be told apart and are of version 1."""
+    return refusals.not_as_text(content) is None and not records.states_days(content[4])
+
+
+def with_days(case, rng):
+    """A sheet of version 1 in version 2."""
+    drawn = records.Sheet.from_bytes(case.sheet)
+    drawn.version = records.DAY_ROWS
+    for row in drawn.rows:
+        row.first_day, row.last_day = draw_days(rng, drawn.month.days)
+    return case._replace(kind=f"{case.kind}, with days", sheet=drawn.to_bytes())
+
+
+def draw_days(rng, days):
+    """As a rule days of the month, now and then any that fit the fields."""
+    if days and rng.random() < 0.95:
+        return sorted(rng.choices(range(1, days + 1), k=2))
+    return rng.randrange(256), rng.randrange(256)
 
 
 def test_explained(cases, answers):
@@ -57,7 +84,8 @@ def test_places(cases, answers):
             check(found > last, f"explain: {case.kind}: byte {refusal.place} after {last}")
             last = found
             entry = next(entry for entry in records.entries(content) if entry.place == refusal.place)
-            allowed = {records.BUYER: records.SINGLE_BUYER, records.Z: records.LOWEST_Z}.get(entry.field.unit, 0)
+            allowed = {records.BUYER: records.SINGLE_BUYER, records.Z: records.LOWEST_Z,
+                       records.ROW_DAY: content[5]}.get(entry.field.unit, 0)
             content[entry.place:entry.place + entry.field.width] = allowed.to_bytes(entry.field.width, "big")
     check(len(repaired) >= 50, f"explain: only {len(repaired)} sheets were repaired")
     with tempfile.TemporaryDirectory() as folder:
@@ -67,8 +95,8 @@ def test_places(cases, answers):
 
 def test_round_trips(cases, answers):
     """Every sheet that gets past refusal 6 comes back from its text byte for byte; others do, or are turned down."""
-    by_command = 0
-    for case, answer in zip(cases[:ROUND_TRIPS], answers):
+    by_command = Counter()
+    for case, answer in zip(cases[:WITH_DAYS + ROUND_TRIPS], answers):
         number = answer if isinstance(answer, int) else 0
         with tempfile.TemporaryDirectory() as folder:
             text = os.path.join(folder, "month.toml")
@@ -80,10 +108,11 @@ def test_round_trips(cases, answers):
                 Path(path).write_bytes(content)
             packed, _ = monthtext.read_sheet(text)
             check(packed.to_bytes() == case.sheet, f"pack after unpack: {case.kind}")
-            if number in refusals.FORM or by_command == BY_COMMAND:
+            if number in refusals.FORM or by_command[case.sheet[4]] == BY_COMMAND:
                 continue
-            by_command += 1
+            by_command[case.sheet[4]] += 1
             test_commands(case.kind, case.sheet, Path(folder), files_in(folder))
+    check(by_command == dict.fromkeys(records.VERSIONS, BY_COMMAND), f"round trips by command: {by_command}")
 
 
 def test_commands(name, content, folder, texts):
@@ -101,12 +130,14 @@ def test_commands(name, content, folder, texts):
 
 def largest_fields():
     """Every figure the largest that its field holds, in as many records as get past refusal 6; one hour is another."""
-    for month, series, hour in ((records.Month(31, 7, 2 ** 31 - 1), 0, 743), (records.Month(28, 1, 0), 2, 0)):
+    for month, series, hour, version in ((records.Month(31, 7, 2 ** 31 - 1), 0, 743, records.FULL_ROWS),
+                                         (records.Month(28, 1, 0), 2, 0, records.DAY_ROWS)):
         powers = [array("I", [2 ** 32 - 1]) * month.hours for _ in range(3)]
         powers[series][hour] = 0
         producer = records.Producer(*[2 ** 32 - 1] * 3, [65535] * 3, [2 ** 32 - 1] * 6, *powers)
-        yield records.Sheet(month, [producer] * 6, [records.Row(255, 254, 2 ** 32 - 1, 2 ** 32 - 1)] * 32,
-                            [records.Consumer(2 ** 32 - 1, 2 ** 32 - 1, 255, 255, 255, 2 ** 32 - 1)] * 32).to_bytes()
+        row = records.Row(255, 254, 2 ** 32 - 1, 2 ** 32 - 1, 255, 255)
+        consumer = records.Consumer(2 ** 32 - 1, 2 ** 32 - 1, 255, 255, 255, 2 ** 32 - 1)
+        yield records.Sheet(month, [producer] * 6, [row] * 32, [consumer] * 32, version).to_bytes()
 
 
 def test_largest_fields():

@@ -14,7 +14,7 @@ from checks import CHANGES, EXAMPLES, PROGRAM, ROOT, check, files_in, report, ru
 def test_examples(folder):
     """Each text packs to its sheet, each sheet has its listing by the rival; show, explain and result on each."""
     names = sorted(path.stem for path in EXAMPLES.glob("*.sheet"))
-    check(len(names) >= 17, f"examples: only {len(names)} sheets")
+    check(len(names) >= 22, f"examples: only {len(names)} sheets")
     for name in names:
         source, listing = EXAMPLES / f"{name}.sheet", (EXAMPLES / f"{name}.listing").read_bytes()
         if (EXAMPLES / f"{name}.toml").is_file():
@@ -93,7 +93,12 @@ def test_result(name, source, listing, folder):
 def test_show_and_explain():
     for name, lines in {
         "month.sheet": ["holidays            day 1, day 16, day 17", " 26         3             0     5.0  568000.00",
-                        "       0  305853.6  307267.2  16437.0            120             28.1"],
+                        "       0  305853.6  307267.2  16437.0            120             28.1",
+                        "row  producer      consumer  volume      price"],
+        "inside-month.sheet": ["version             2",
+                               "row  producer      consumer  volume      price  first day  last day",
+                               "  0         0  single buyer    80.0  600000.00         10        30",
+                               "  4         0             1    10.0  580000.00          1        30"],
         "refused-1.sheet": ["The sheet ends after 13 bytes, inside the header."],
         "refused-2.sheet": ["The sheet ends after 28 bytes; consumer 0 would end after 29."],
         "refused-6.sheet": ["The last record ends after 29 bytes; the sheet has 30."],
@@ -104,7 +109,9 @@ def test_show_and_explain():
         "refused-1.sheet": "byte 13: count of consumers, which is cut off: the sheet ends after 13 bytes",
         "refused-9.sheet": "byte 5232: producer 0, hour 431 (day 18, 23:00), possible power, 10000.1 MW "
                            "(at most 10000.0)",
+        "refused-3.sheet": "byte 4: version, 9",
         "refused-10.sheet": "byte 8707: row 1, consumer, 2 (the sheet has 2, numbered from 0; 255 is the single buyer)",
+        "refused-18.sheet": "byte 8719: row 1, last day, 31 (from the first day, 10, to 30)",
     }.items():
         printed = sheet("explain", "-", stdin=(EXAMPLES / name).read_bytes()).stdout.decode().split("\n")
         check(printed[1:] == [line, ""], f"explain: {name}", "\n".join(printed))
@@ -122,10 +129,10 @@ def test_readmes():
         check(f"```{kind}\n{(EXAMPLES / name).read_text()}```\n" in readme, f"tools/README.md has {name}")
     plant = (EXAMPLES / "plant.complex.csv").read_text().splitlines(keepends=True)
     check(f"```csv\n{''.join(plant[:5])}```\n" in readme, "tools/README.md has the beginning of plant.complex.csv")
-    keys = [field.key for field in (*records.PRODUCER_FIELDS, *records.ROW_FIELDS, *records.CONSUMER_FIELDS,
-                                    *records.ENTRY_FIELDS, *records.COMPLEX_FIELDS[1:],
+    keys = [field.key for field in (*records.PRODUCER_FIELDS, *records.ROW_FIELDS, *records.ROW_DAY_FIELDS,
+                                    *records.CONSUMER_FIELDS, *records.ENTRY_FIELDS, *records.COMPLEX_FIELDS[1:],
                                     *records.COMPLEX_HOUR_FIELDS)]
-    for key in (*keys, *monthtext.TOP_KEYS[:5], "name", "hours", monthtext.csv_head(records.HOUR_FIELDS),
+    for key in (*keys, *monthtext.TOP_KEYS[:6], "name", "hours", monthtext.csv_head(records.HOUR_FIELDS),
                 *(key for columns in forms.COLUMNS.values() for key in columns)):
         check(f"`{key}`" in readme, f"tools/README.md names {key}")
     usage = run(ROOT / "settle", "--help").stdout.decode()

@@ -220,7 +220,7 @@ def bad_table(path, words, folder):
 HEADER_FIELDS = {0: "length", 4: "version", 5: "days in the month", 6: "weekday of day 1", 7: "holidays",
                  11: "count of producers", 12: "count of rows", 13: "count of consumers"}
 # The number of a refusal, the place of a byte in the header, and figures that are wrong there.
-BAD_FIGURES = [(3, 4, (0, 2, 255)), (4, 5, (0, 27, 32, 255)), (4, 6, (0, 8, 255))]
+BAD_FIGURES = [(3, 4, (0, 9, 255)), (4, 5, (0, 27, 32, 255)), (4, 6, (0, 8, 255))]
 # Lines in place of those of the good text's month, and what is said of it, after its name.
 BAD_MONTHS = [
     ("days = 27\nweekday = 1\nholidays = []", "days in the month, 27"),
@@ -251,8 +251,8 @@ def test_turned_down(folder):
         for day in range(days + 1, 33):
             without_calendar(folder, month_bytes(days, 1, 1 << day - 1), 4,
                              f"byte 7: holidays, day {day} in a month of {days} days")
-    without_calendar(folder, bytes.fromhex("0000000e 02 1b 08 ffffffff 00 00 00"), 3,
-                     "byte 4: version, 2 (and 7 more; tools/sheet check lists them all)")
+    without_calendar(folder, bytes.fromhex("0000000e 09 1b 08 ffffffff 00 00 00"), 3,
+                     "byte 4: version, 9 (and 7 more; tools/sheet check lists them all)")
     text = folder / "month.toml"
     for lines, words in BAD_MONTHS:
         text.write_text(changed(GOOD, [(MONTH, lines)]))

@@ -5,7 +5,9 @@ import subprocess
 import time
 from hashlib import sha256
 
+import programs
 from checks import CHANGES, EXAMPLES, LISTS, PROGRAMS, RECORDS, ROOT, check, files_in, run, sheet, words_of
+from days import INSIDE, after_change
 from text_2015 import by_rival
 from texts import BACK, GOOD, changed
 from use import NOT_A_LIST, NOT_A_MONTH, NOT_A_RECORD, RECORD_NO_LIST, RECORD_NO_MONTH
@@ -248,9 +250,10 @@ def test_months(folder):
               words_of(done))
     done = house.settle("--result", "-r.bin", "examples/small.toml")
     check(done.returncode == 2 and b"-r.bin: exists; --force" in done.stderr, "settle --result: exists", words_of(done))
-    done = house.settle("--explain", "examples/refused-10.toml")
-    check(done.stdout == b"N10\n" and b"refused-10.toml: row 1, consumer, 2 (" in done.stderr,
-          "settle --explain: a text", words_of(done))
+    for number, field in ((10, "row 1, consumer, 2 ("), (18, "row 1, last day, 31 (")):
+        done = house.settle("--explain", f"examples/refused-{number}.toml")
+        check(done.stdout == b"N%d\n" % number and f"refused-{number}.toml: {field}" in done.stderr.decode(),
+              f"settle --explain: a text, {number}", words_of(done))
     for words, said in ((["--table", "--csv"], "--table and --csv are two forms"), (["--result"], "--result wants"),
                         (["--result", "-"], "--result wants"), (["--result="], "--result wants"),
                         (["--force"], "--force goes with --result or --sheet"),
@@ -620,6 +623,18 @@ def check_other_output_2015(house):
     done = house.settle("--text-2015", "examples/producer.sheet")
     check(done.returncode == 2 and done.stderr == b"settle: the program failed on examples/producer.sheet\n",
           "settle --text-2015: a failure", words_of(done))
+
+
+def test_days(folder):
+    """The bytes of a sheet of version 2 after a list or record, under both texts, without Python."""
+    house = House(folder)
+    (house.bin / "python3").unlink()
+    for kind in CHANGES:
+        packed, after = after_change(kind, folder)
+        for words, listing in (([], run(programs.RIVAL, "list", after).stdout), (["--text-2015"], by_rival(after))):
+            done = house.settle(*words, kind.option, packed, INSIDE)
+            check(done.returncode == 0 and done.stdout == listing, f"settle {words} {kind.option}: a sheet with days",
+                  words_of(done))
 
 
 def test_version(folder):

@@ -64,6 +64,7 @@ SAME = {
     "one line for a record": [
         (ROW, ""),
         ("holidays = []", f"holidays = []\nrow = [ {{ {', '.join(ROW.splitlines()[1:])} }} ]")],
+    "version 1": [("holidays = []", "holidays = []\nversion = 1")],
 }
 
 # A change of the good text, and words of the message.
@@ -92,7 +93,9 @@ BAD = [
     ("holidays = []", "holidays = [8, 2021-02-08]", "holidays: day 8 stands there twice"),
     (MONTH, "days = 28\nweekday = 1\nholidays = [2021-02-08]", "holidays: 2021-02-08 is a date"),
     (MONTH, "days = 28\nweekday = 1\nholidays = [33]", "a day from 1 to 32"),
-    ("holidays = []", "holidays = []\nversion = 1", 'the key "version" is unknown'),
+    ("holidays = []", "holidays = []\nversion = 0", "month.toml: version: 0 is not a whole number from 1 to 2"),
+    ("holidays = []", "holidays = []\nversion = 3", "version: 3 is not a whole number from 1 to 2"),
+    ("holidays = []", 'holidays = []\nversion = "2"', 'version: "2" is not a whole number from 1 to 2'),
     ("holidays = []", "holidays = []\nproducers = 1", 'the key "producers" is unknown'),
     ("holidays = []", 'holidays = []\n"a\\nb" = 1', 'the key "a\\nb" is unknown'),
     ("[[consumer]]", "[consumer]", "consumer: each one begins with [[consumer]], in two brackets"),
