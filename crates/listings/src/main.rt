@@ -15,6 +15,7 @@ fn list_file(name: &[u8]) {
 
 fn main() {
     list_file(b"month");
+    list_file(b"inside_month");
     list_file(b"zeros");
     list_file(b"largest");
     list_file(b"header");
@@ -22,4 +23,5 @@ fn main() {
     list_file(b"refused_2");
     list_file(b"refused_9");
     list_file(b"refused_12");
+    list_file(b"refused_18");
 }
