@@ -27,14 +27,6 @@ unfolding rowWidth
 states-width l e = rw e
 
 -- In every version.
-pub row-width-le : (l : Layout) → rowWidth l ≤ 12
-unfolding rowWidth
-row-width-le l = go (statesDays l)
-  where
-    go : (b : Bool) → cond b 12 10 ≤ 12
-    go true = omega arith
-    go false = omega arith
-
 pub row-width-from : (l : Layout) → 10 ≤ rowWidth l
 unfolding rowWidth
 row-width-from l = go (statesDays l)

@@ -1,33 +1,32 @@
 -- Sheets past number 6 that state the same figures get the same answers, whatever their versions. Assumes nothing.
-use mathlib.Core.Path.{_≡_, refl, sym, ap, _∙_}
-use mathlib.Core.Bool.{Bool, true, false, cond}
+use mathlib.Core.Path.{_≡_, sym, ap, _∙_}
+use mathlib.Core.Bool.{Bool, false}
 use mathlib.Core.List.{List, _++_, append-assoc}
-use Prim.Native.Nat.{ℕ, _≤_, _<_}
+use Prim.Native.Nat.{ℕ, _<_}
 use native.Mathlib.Omega.{arith}
 use borrow.Author.Tests.{le-ltb}
 use lib.ListN.{length}
 use Rattle.rules.specs.declared.Header.{Header}
-use Rattle.rules.specs.declared.Layout.{Layout}
 use Rattle.rules.specs.declared.Row.{Row}
 use Rattle.rules.specs.declared.Consumer.{Consumer}
 use Rattle.rules.specs.Range.{any}
 use Rattle.rules.specs.Month.{Producer, Month, hours}
-use Rattle.rules.specs.Fields.{laid, joined, over}
+use Rattle.rules.specs.Fields.{over}
 use Rattle.rules.specs.Sheet.{version, headerOf, layoutOf, monthOf, statesDays, dayAt}
 use Rattle.rules.specs.Result.{resultLength, resultOf}
 use Rattle.rules.specs.Limits.{MonthLimits}
-use Rattle.rules.specs.Refusals.{badShare, highHour, highProducer, highRow, highConsumer, badReference, tooDear, badFactor, badDays, Test, test, oneOf, formTests, roomTests, figureTests, sheetTests, testsFor, tests, firstOf, refusal}
+use Rattle.rules.specs.Refusals.{badShare, highHour, highProducer, highRow, highConsumer, badReference, tooDear, badFactor, badDays, Test, formTests, roomTests, figureTests, sheetTests, testsFor, tests, firstOf, refusal}
 use Rattle.rules.specs.Outcome.{outcome, bufferAfter}
 use Rattle.rules.specs.Text2015.{factor2015, volume2015, charge2015}
-use Rattle.rules.specs.Result2015.{Figures2015, figures2015, fields2015, head2015, length2015, record2015, result2015}
+use Rattle.rules.specs.Result2015.{length2015, record2015, result2015}
 use Rattle.rules.specs.Outcome2015.{tests2015, refusal2015, outcome2015, bufferAfter2015}
-use Rattle.rules.specs.Transfers.{contracts, transferTests, transferRefusal, transferOutcome}
+use Rattle.rules.specs.Transfers.{transferTests, transferRefusal, transferOutcome}
 use Rattle.rules.specs.Averaging.{recordTests, averageTests, averageRefusal, averageOutcome}
 use Rattle.laws.proofs.Range.{any-same}
 use Rattle.laws.proofs.Refusals.{first-append, first-next, form-numbered, sheet-numbered, limits-for}
 use Rattle.laws.proofs.Answers.{same-after}
 use Rattle.theorems.specs.Alike.{SameProducer, Alike}
-use Rattle.theorems.specs.Request5.{FullRow, FullRows, SameAnswers}
+use Rattle.theorems.specs.Request5.{FullRows, SameAnswers}
 use Rattle.theorems.proofs.Alike.{joined-same, alike-result}
 use Rattle.theorems.proofs.Transfers.{list-same}
 

@@ -1,18 +1,15 @@
 -- A sheet of version 1 written in version 2 gets past number 6, and states the same figures with rows that cover the month. Assumes nothing.
 use mathlib.Core.Path.{_≡_, refl, sym, ap, subst, _∙_}
-use mathlib.Core.Bool.{true}
 use mathlib.Core.List.{List, [], _∷_, _++_}
 use Prim.Native.Nat.{ℕ, _+_, _-_, _*_, _≤_, _<_}
-use native.Mathlib.Nat.{add-zero, zero-add, add-assoc, mul-le-mul-right}
+use native.Mathlib.Nat.{zero-add, add-assoc, mul-le-mul-right}
 use native.Mathlib.Omega.{arith}
-use borrow.Author.Tests.{lt-ltb}
 use lib.ListN.{length, getD, length-append}
-use Rattle.rules.specs.declared.Header.{Header}
 use Rattle.rules.specs.declared.Layout.{Layout}
 use Rattle.rules.specs.Month.{hours}
 use Rattle.rules.specs.Limits.{HeaderLimits, FormLimits}
 use Rattle.rules.specs.Fields.{bigEndian, bytesFrom, field, laid, widthOf, joined}
-use Rattle.rules.specs.Sheet.{lengthField, version, headerOf, layoutOf, monthOf, statesDays, rowWidth, producerAt, producerUnder, rowAt, rowOf, dayAt, consumerAt, consumerOf, sheetLength, inVersion2}
+use Rattle.rules.specs.Sheet.{lengthField, version, headerOf, layoutOf, monthOf, statesDays, producerAt, producerUnder, rowAt, rowOf, dayAt, consumerAt, consumerOf, sheetLength, inVersion2}
 use Rattle.laws.proofs.Fields.{Holds, holds-left, holds-right, length-laid, Fit, read-laid, length-joined, held-record}
 use Rattle.laws.proofs.Sheet.{SameFields, length-from, held-from, row-width-1, row-width-2, sheet-length, producers-le, front-same, consumer-same}
 use Rattle.theorems.specs.Alike.{SameProducer}
