@@ -1,6 +1,6 @@
 """Mutants that no figure can tell from the definitions, with the reason.
 
-They give the same answer for every sheet, or for every sheet that the numbers 1 to 12 let pass. A mutant is named as it
+They give the same answer for every sheet, or for every sheet that no number turns down. A mutant is named as it
 is printed, or by its definition and what was done there, or only by what was done.
 """
 
@@ -11,8 +11,6 @@ ALIKE = [
     ("the first test that applies is the same where one is asked twice",
      ["Refusals.frontTests, doubled",
       "Refusals.headerTests, doubled",
-      "Refusals.formTests, doubled",
-      "Refusals.sheetTests, doubled",
       "Refusals.roomTests, doubled",
       "Refusals.figureTests, doubled",
       "Refusals.testsFor, doubled",
@@ -57,8 +55,6 @@ ALIKE = [
      ["Consumers.credited: bilateral m j && eqb (m .row j .consumer) c → eqb (m .row j .consumer) c"]),
     ("a byte past the end is read only of a sheet that number 1 or 6 refuses, whatever that byte is",
      ["Fields.bigEndian: getD s (at + w) 0 → getD s (at + w) 1"]),
-    ("there is one version, and so one layout: no width or place asks for the version",
-     ["Sheet.layoutOf: version s → lengthField s"]),
     ("1 over 0 is 1, by the rule for a whole of 0, as 1 over 1 is; and 0 of 2 is 0, as 0 of 1 is",
      ["Coefficients.lessPenalty: ratio 1 1 → ratio 1 0",
       "Coefficients.lessPenalty: ratio 0 1 → ratio 0 2"]),

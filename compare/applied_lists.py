@@ -9,6 +9,7 @@ from drawing import draw_sheet
 from records import MOST_CONSUMERS, TOP_CAPACITY, Transfer
 from refusals import LAST_FILING_DAY
 from transfer_lists import TransferList
+from versions import in_version
 
 # ------------------------------------------------------------------ sheets
 
@@ -30,7 +31,7 @@ def sheet_of(rng, consumers, producers=0, rows=0):
     if rng.random() < 0.7:
         for consumer in sheet.consumers:
             consumer.contract = draw_volume(rng)
-    return sheet
+    return in_version(rng, sheet)
 
 
 def some_sheet(rng):
@@ -229,7 +230,7 @@ def behind_producers(rng):
 
 
 def in_the_largest_sheet(rng):
-    sheet = LARGEST["full_counts_31_days"](rng)
+    sheet = in_version(rng, LARGEST["full_counts_31_days"](rng))
     return sheet, some_entries(rng, volumes_of(sheet), most=60).list()
 
 

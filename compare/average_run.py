@@ -16,6 +16,7 @@ MARKS = {
     "16": ["N16", "16short", "16length", "16days", "16consumer", "16with17"],
     "17": ["N17"] + [f"17{place}" for place in (
         "imported", "drawn", "sent", "control", "outside", "first", "last", "oneabove")],
+    "18": ["18with16"],
     "sent out and drawn": ["done", "nocontrol", "sentabove", "sentequal", "sentbelow", "clamped"],
     "rounding": ["half", "rounddown", "roundup", "exact"],
     "imported power": [f"imported{side}" for side in ("0", "below", "equal", "above")] + ["halfimported"],
@@ -23,6 +24,7 @@ MARKS = {
     "consumer": ["onlyconsumer", "firstconsumer", "lastconsumer"],
     "month": [f"days{days}" for days in range(28, 32)] + ["holiday"],
     "slips that would show": ["hour16", "hour23", "weekend", "swapped"],
+    "version": ["version2"],
 }
 
 # ------------------------------------------------------------------ two records for one sheet
@@ -54,9 +56,9 @@ def compare_pairs(run, settling, count):
     for start in range(0, count, CHUNK):
         pairs = list(record_cases.pairs(run.seed, min(CHUNK, count - start), start))
         cases = [ChangeCase(pair.kind, pair.sheet, record) for pair in pairs for record in (pair.first, pair.second)]
-        answers, _ = run.answers(2 * start, cases)
+        answers = run.answers(2 * start, cases)
         check_taken(run, 2 * start, cases, answers)
-        results, _ = settling.answers(2 * start, [exact_case(case.kind, after) for case, after in zip(cases, answers)])
+        results = settling.answers(2 * start, [exact_case(case.kind, after) for case, after in zip(cases, answers)])
         figures = [result_figures(case.sheet, result) for case, result in zip(cases, results)]
         for place in range(0, len(cases), 2):
             consumer = cases[place].given[4]

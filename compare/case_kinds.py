@@ -1,9 +1,9 @@
 """Kinds of cases that an entry is tried with, and the drawing of cases from a seed.
 
 A kind is "group/corner", as "refusal_4/days_27". The corners of a group come in turn, so each is reached however the
-seed falls; all else in a case is drawn. A case depends only on the seed and its index.
+seed falls; all else in a case is drawn, the version of its sheet too. A case depends only on the seed and its index.
 """
-import random
+from versions import Draws
 
 
 def in_bytes(drawn):
@@ -34,7 +34,7 @@ class Kinds:
         return group, corners[turn % len(corners)]
 
     def case(self, seed, index):
-        return self.draw_case(random.Random(f"{seed}/{self.drawn_for}{index}"), *self.group_and_corner(index))
+        return self.draw_case(Draws(f"{seed}/{self.drawn_for}{index}"), *self.group_and_corner(index))
 
     def cases(self, seed, count, start=0):
         return (self.case(seed, index) for index in range(start, start + count))

@@ -26,7 +26,7 @@ def compare_cases(run, settling, count, marks, told):
     coverage, done = Coverage(marks, kinds.groups), 0
     for start in range(0, count, CHUNK):
         cases = list(kinds.cases(run.seed, min(CHUNK, count - start), start))
-        answers, marked = run.answers(start, cases)
+        answers, marked = run.answers_and_marks(start, cases)
         coverage.add(cases, marked)
         done += settle_done(settling, 2 * done, kinds.given, cases, answers)
     print(f"{kinds.given}s: {done} of {count} {told}, the sheet accepted in the same room")

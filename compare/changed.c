@@ -14,7 +14,6 @@
 #define _DEFAULT_SOURCE
 #include <inttypes.h>
 
-#include "capacity.h"
 #include "rooms.h"
 
 /* An entry, with the first and the last of the numbers that only it answers. */
@@ -43,8 +42,8 @@ static void check_kept(void)
 
 static int is_answer(int64_t answer)
 {
-    int of_sheet = answer <= 0 && answer >= -CAPACITY_BAD_FACTOR && answer != -CAPACITY_SHORT_BUFFER;
-    return of_sheet || (answer <= -entry->first && answer >= -entry->last);
+    int of_sheet = refuses_sheet(answer) && answer != -CAPACITY_SHORT_BUFFER;
+    return answer == 0 || of_sheet || (answer <= -entry->first && answer >= -entry->last);
 }
 
 static int64_t change_and_check(void)

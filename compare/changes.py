@@ -44,6 +44,8 @@ FIELD_KINDS = (
     ("producer", "consumer"),
     ("contract", "peak", "volume", "price"),
     ("supplier", "grid", "z"),
+    ("first", "last"),
+    ("part", "whole"),
     ("edge", "factor"),
     ("afterCut", "actual", "payment"),
     ("credit", "percent", "band", "volume", "charge"),

@@ -1,7 +1,30 @@
 """Which corners the cases of a run reached: the marks that the rival gives each case, and the kinds that were drawn."""
 from collections import Counter
 
+from refusals import FIGURES
+
 JUDGED_FROM = 2000  # fewer cases need not reach every corner
+
+# The rival's marks of request 5, in lines with a title: of sheets that are settled, and of those that are refused.
+MARKS_OF_DAYS = {
+    "version": ["version1", "version2"],
+    "days covered": ["coversall", "coverspart", "coversone", "beginsinside", "endsinside", "bothinside", "firstdayonly",
+                     "lastdayonly"],
+    "rounding for the days": ["tie_days", "daysdown", "daysup", "daysexact"],
+    "share out of its turn": ["daysbefore", "daysbeforek10", "daysaftertenth", "daysunrounded", "daysonefewer"],
+    "volumes of the days": ["cutofdays", "tofdays", "sofdays"],
+}
+MARKS_OF_DAYS_REFUSED = {
+    "3 and 6 by version": ["3version0", "3version3", "3versionabove", "6rows10", "6rows12"],
+    "18 beside another": [f"N{number}with18" for number in FIGURES if number != 18],
+    "18": [f"18{cause}" for cause in ("first0", "lastbefore", "lastafter", "firstrow", "lastrow")],
+}
+
+
+def marks_of(line):
+    """The marks of a case in the rival's line of them. One that stands beside several numbers is told with its own."""
+    marks = line.split()
+    return [marks[0] + mark if mark == "with18" else mark for mark in marks]
 
 
 class Coverage:
@@ -14,7 +37,7 @@ class Coverage:
     def add(self, cases, lines):
         """Counts cases with the line of marks of each."""
         for case, line in zip(cases, lines):
-            self.marks.update(line.split())
+            self.marks.update(marks_of(line))
             self.kinds[case.kind] += 1
 
     def print_marks(self):

@@ -1,8 +1,9 @@
 """Demand 3 of two results, the second of a sheet that is worse in some places, and rules of that form."""
+from collections import Counter
 from typing import NamedTuple
 
 import sheets
-from records import result_figures
+from records import DAY_ROWS, Header, result_figures
 from running import CHUNK
 
 
@@ -42,32 +43,36 @@ def against_rule(first, second):
 def check_pairs(run, start, cases, answers, rule=DEMAND_3):
     """A rule of cases that follow each other by two, with results on which both programs agree.
 
-    Gives how many pairs had a figure that moved.
+    Counts the pairs that had a figure that moved, and those of version 2.
     """
-    moved = 0
+    found = Counter()
     for place in range(0, len(cases), 2):
         first, second = (rule.figures(cases[number].sheet, answers[number]) for number in (place, place + 1))
-        moved += first != second
+        found["moved"] += first != second
+        found["version 2"] += Header.from_bytes(cases[place].sheet).version == DAY_ROWS
         wrong = against_rule(first, second)
         if wrong:
             raise run.report_pair(start + place, *cases[place:place + 2], f"{rule.name}: {wrong}")
-    return moved
+    return found
 
 
 def compare_pairs(run, draw_pairs, count, rule=DEMAND_3):
-    """Settles pairs of sheets by both programs and checks a rule. Gives how many pairs had a figure that moved."""
-    moved = 0
+    """Settles pairs of sheets by both programs and checks a rule; counts as check_pairs does."""
+    found = Counter()
     for start in range(0, count, CHUNK):
         pairs = draw_pairs(run.seed, min(CHUNK, count - start), start)
         cases = [sheets.Case(pair.kind, sheet, sheets.LONGEST_BUFFER)
                  for pair in pairs for sheet in (pair.first, pair.second)]
         # Both programs gave these answers, byte by byte, so the rule is checked of each by one look.
-        answers, _ = run.answers(2 * start, cases)
-        moved += check_pairs(run, 2 * start, cases, answers, rule)
-    return moved
+        found += check_pairs(run, 2 * start, cases, run.answers(2 * start, cases), rule)
+    return found
 
 
-def moved_in(moved, count, what, rule=DEMAND_3):
-    """Says in how many pairs a figure moved; gives the words of a failure if they are too few, or none."""
-    print(f"{rule.name}: {count} {what}, {moved} with a figure that moved, none against it")
-    return f"in less than half of the {what} a figure moved" if 2 * moved < count else ""
+def moved_in(found, count, what, rule=DEMAND_3):
+    """Says in how many pairs a figure moved, and how many are of version 2; gives the words of a failure if either are
+    too few, or none."""
+    print(f"{rule.name}: {count} {what}, {found['version 2']} of version 2, {found['moved']} with a figure that moved, "
+          "none against it")
+    if 2 * found["moved"] < count:
+        return f"in less than half of the {what} a figure moved"
+    return f"less than a quarter of the {what} are of version 2" if 4 * found["version 2"] < count else ""

@@ -1,5 +1,4 @@
 """The sheets and lists of transfers that the two programs are compared on, and the pairs of demand 3 with a list."""
-import random
 from typing import NamedTuple
 
 import sheets
@@ -10,6 +9,7 @@ from change_cases import ChangeKinds
 from drawing import capacity
 from refusals import TRIED_IN_LIST
 from refused_lists import DAMAGED, FAULTS, LIST_13, LIST_14, LIST_15, REFUSED_SHEETS, SEVERAL_RULES
+from versions import Draws, in_versions
 
 
 class ListPair(NamedTuple):
@@ -24,14 +24,14 @@ class ListPair(NamedTuple):
 
 GROUPS = {"applied": APPLIED, "long": LONG, "list_13": LIST_13, "list_14": LIST_14, "list_15": LIST_15,
           "several_rules": SEVERAL_RULES, "damaged": DAMAGED}
-SHARES = {"applied": 47, "long": 3, "list_13": 14, "list_14": 5, "list_15": 11, "several_rules": 5, "damaged": 4}
+SHARES = {"applied": 47, "long": 3, "list_13": 14, "list_14": 5, "list_15": 11, "several_rules": 7, "damaged": 4}
 KINDS = ChangeKinds("list", GROUPS, REFUSED_SHEETS, SHARES, done=("applied", "long"))
 
 # ------------------------------------------------------------------ pairs of demand 3 with a list
 
 PAIR_SHEETS = {
     "only_consumers": some_sheet,
-    "credits": credit_sheet("drawn"),
+    **in_versions({"credits": credit_sheet("drawn")}),
     "with_producers": lambda rng: sheet_of(rng, rng.randrange(2, 7), producers=rng.randrange(1, 3),
                                            rows=rng.randrange(1, 9)),
 }
@@ -47,7 +47,7 @@ def peaks_at_bands(rng, sheet, volumes):
 
 def pair(seed, index):
     """Every second pair has no producers, and every fifth a list that is turned down."""
-    rng = random.Random(f"{seed}/list-pair/{index}")
+    rng = Draws(f"{seed}/list-pair/{index}")
     name = list(PAIR_SHEETS)[0 if index % 2 else 1 + index // 2 % 2]
     sheet = PAIR_SHEETS[name](rng)
     turns = some_entries(rng, volumes_of(sheet))

@@ -12,7 +12,6 @@
 #define _DEFAULT_SOURCE
 #include <inttypes.h>
 
-#include "capacity.h"
 #include "rooms.h"
 
 /* An entry, with the length of its longest result. */
@@ -33,7 +32,7 @@ static struct room sheet, result;
 static int64_t settle_and_check(void)
 {
     int64_t answer = entry->call(sheet.buffer, sheet.length, result.buffer, result.length);
-    if (answer == 0 || answer < -CAPACITY_BAD_FACTOR || answer > entry->largest)
+    if (!refuses_sheet(answer) && (answer <= 0 || answer > entry->largest))
         stop(BROKEN_PROMISE, "case %lu: the answer %" PRId64 " is neither a refusal nor a count", case_index, answer);
     if (answer > 0 && (uint64_t)answer > result.length)
         stop(BROKEN_PROMISE, "case %lu: the answer is %" PRId64 " bytes, the result buffer has %zu", case_index, answer,

@@ -156,8 +156,8 @@ def rival_answers(cases, folder, command="batch"):
 
 
 def rival_marks(cases, folder, command):
-    """All marks that the rival gives these cases."""
-    return set(rival_file(cases, folder, command).read_text().split())
+    """For each case the line of marks that the rival gives it."""
+    return rival_file(cases, folder, command).read_text().splitlines()
 
 
 def check_paper(cases, answers):

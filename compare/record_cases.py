@@ -2,7 +2,6 @@
 
 Of a pair the second record is alike but for higher powers drawn.
 """
-import random
 from copy import deepcopy
 from typing import NamedTuple
 
@@ -13,6 +12,7 @@ from drawing import capacity, spread
 from refused_records import DAMAGED, RECORD_16, RECORD_17, REFUSED_SHEETS, SEVERAL_RULES
 from sheets import higher_powers
 from taken_records import LONG, MONTHS, TAKEN, behind_producers, plain_record, record_for, some_consumer, some_sheet
+from versions import Draws, in_versions
 
 # ------------------------------------------------------------------ cases
 
@@ -34,8 +34,7 @@ class RecordPair(NamedTuple):
 
 PAIR_SHEETS = {
     "only_consumers": some_sheet,
-    "credits": credit_sheet("drawn"),
-    "with_producers": behind_producers,
+    **in_versions({"credits": credit_sheet("drawn"), "with_producers": behind_producers}),
 }
 
 
@@ -64,7 +63,7 @@ def contract_below(rng, peak):
 
 def pair(seed, index):
     """Every second pair has no producers."""
-    rng = random.Random(f"{seed}/record-pair/{index}")
+    rng = Draws(f"{seed}/record-pair/{index}")
     name = list(PAIR_SHEETS)[0 if index % 2 else 1 + index // 2 % 2]
     sheet = PAIR_SHEETS[name](rng)
     record = first_of_pair(rng, sheet)

@@ -1,5 +1,5 @@
-"""Kinds of sheets that are turned down, by every cause that document 01 names; sheets that break several rules at
-once; damaged sheets.
+"""Kinds of sheets that are turned down, by every cause that document 01 and request 5 name; sheets that break several
+rules at once; damaged sheets.
 
 A cause changes an accepted Sheet so that it breaks one rule and none that is tried before it.
 """
@@ -9,9 +9,10 @@ from typing import NamedTuple
 
 from accepted import ordinary_month
 from drawing import draw_consumer, draw_sheet
-from records import (HEADER, LOWEST_Z, MOST_CONSUMERS, MOST_PRODUCERS, MOST_ROWS, ONE, SINGLE_BUYER, TOP_CAPACITY,
-                     TOP_PRICE, TOP_Z, Row, result_length)
-from refusals import BUFFER_NUMBER, TRIED, tried_from, turn
+from records import (DAY_ROWS, FULL_ROWS, HEADER, LOWEST_Z, MOST_CONSUMERS, MOST_PRODUCERS, MOST_ROWS, ONE,
+                     SINGLE_BUYER, TOP_CAPACITY, TOP_PRICE, TOP_Z, Row, result_length, row_packing)
+from refusals import BUFFER_NUMBER, HEADER_PLACES, TRIED, tried_from, turn
+from versions import in_version
 
 LARGEST_4 = 2 ** 32 - 1
 
@@ -48,6 +49,10 @@ def surplus_of(count):
     def cause(rng, sheet, pick):
         sheet.surplus = count
     return cause
+
+
+def a_row_more(rng, sheet, pick):
+    sheet.surplus = row_packing(sheet.version).size
 
 
 def lost_bytes(rng, sheet, pick):
@@ -200,6 +205,46 @@ def z_is(figure):
     return cause
 
 
+# ------------------------------------------------------------------ 18: days of a row
+
+
+def days_of_row(choose):
+    """choose: first and last day, from a random.Random and the days of the month."""
+    def cause(rng, sheet, pick):
+        sheet.version = DAY_ROWS
+        row = pick(sheet.rows)
+        row.first_day, row.last_day = choose(rng, sheet.month.days)
+    return cause
+
+
+def some_day(rng, days):
+    return rng.choice((1, days, rng.randrange(1, days + 1)))
+
+
+def days_before(rng, days, count):
+    """The last day so many days before the first, or on day 0 where there are not so many."""
+    first = rng.randrange(1, days + 1)
+    return first, max(0, first - count)
+
+
+# First and last day.
+WRONG_DAYS = {
+    "first_0": lambda rng, days: (0, some_day(rng, days)),
+    "first_and_last_0": lambda rng, days: (0, 0),
+    "last_0": lambda rng, days: (some_day(rng, days), 0),
+    "last_one_before": lambda rng, days: days_before(rng, days, 1),
+    "last_far_before": lambda rng, days: days_before(rng, days, rng.randrange(2, days)),
+    "last_next": lambda rng, days: (some_day(rng, days), days + 1),
+    "last_255": lambda rng, days: (some_day(rng, days), 255),
+    "first_past_last_within": lambda rng, days: (days + 1, days),
+    "first_and_last_past": lambda rng, days: (days + 1, days + 1),
+    "first_and_last_255": lambda rng, days: (255, 255),
+    "first_0_last_past": lambda rng, days: (0, rng.choice((days + 1, 255))),
+}
+
+# ------------------------------------------------------------------ all causes
+
+
 def causes_of_length():
     """Numbers 2, 3 and 6."""
     for name, change in (("one_more", lambda true: true + 1), ("one_less", lambda true: true - 1),
@@ -209,11 +254,12 @@ def causes_of_length():
         yield 2, name, "", length_field(change)
     yield 2, "bytes_lost", "consumers", lost_bytes
     yield 2, "bytes_added", "", added_bytes
-    for figure in (0, 2, 255):
+    for figure in (0, 3, 255):
         yield 3, f"version_{figure}", "", version_is(figure)
     yield 3, "version_other", "", version_other
-    for name, count in (("one_byte_more", 1), ("a_row_more", 10), ("65536_bytes_more", 65536)):
-        yield 6, name, "", surplus_of(count)
+    yield 6, "one_byte_more", "", surplus_of(1)
+    yield 6, "a_row_more", "", a_row_more
+    yield 6, "65536_bytes_more", "", surplus_of(65536)
     for name, count in (("one_byte_less", -1), ("a_consumer_less", -15)):
         yield 6, name, "consumers", surplus_of(count)
     for place, records in enumerate(("producers", "rows", "consumers")):
@@ -239,7 +285,7 @@ def causes_of_month_and_counts():
 
 
 def causes_of_figures():
-    """Numbers 8 to 12."""
+    """Numbers 8 to 12 and 18."""
     for place, name in enumerate(("no_upward", "no_downward", "no_plan")):
         yield 8, name, "producers", missing_hours(place)
     for place, name in enumerate(("k3", "k6", "k7", "k8", "k9", "k10")):
@@ -268,6 +314,8 @@ def causes_of_figures():
         yield 12, f"{name}_255", "consumers", mining_days(name, far=True)
     for figure in (0, LOWEST_Z - 1, TOP_Z + 1, 255):
         yield 12, f"z_{figure}", "consumers", z_is(figure)
+    for name, choose in WRONG_DAYS.items():
+        yield 18, name, "rows", days_of_row(choose)
 
 
 CAUSES = {number: [] for number in TRIED}
@@ -294,7 +342,7 @@ def base_sheet(rng, touches):
     producers = rng.randrange(1, 3) if touches in ("producers", "rows") or rng.random() < 0.3 else 0
     rows = rng.randrange(1, 5) if touches == "rows" or producers else 0
     consumers = rng.randrange(1, 5) if touches == "consumers" else rng.randrange(4)
-    return draw_sheet(rng, producers, rows, consumers)
+    return in_version(rng, draw_sheet(rng, producers, rows, consumers))
 
 
 def first_of(records):
@@ -321,6 +369,30 @@ def short_sheet(count):
     return draw
 
 
+def rows_of_another_version(version, stated):
+    """The bytes of a sheet of one version whose header states the other."""
+    def draw(rng):
+        sheet = base_sheet(rng, "rows")
+        sheet.version = version
+        content = bytearray(sheet.to_bytes())
+        content[HEADER_PLACES["version"][0]] = stated
+        return bytes(content)
+    return draw
+
+
+def few_rows(rng):
+    return rng.randrange(2, 5)
+
+
+def wrong_row(pick, count_rows):
+    """One row of several has wrong days."""
+    def draw(rng):
+        sheet = in_version(rng, draw_sheet(rng, 1, count_rows(rng), rng.randrange(3)))
+        rng.choice(CAUSES[18]).change(rng, sheet, pick)
+        return sheet
+    return draw
+
+
 def short_buffer(rng, form, needed):
     lengths = {"none": 0, "one_byte": 1, "three": 3, "twenty": 20, "shorter_by_one": needed - 1,
                "shorter": rng.randrange(needed)}
@@ -333,6 +405,10 @@ def accepted_sheet(rng):
 
 REFUSALS = {number: {cause.name: refused_sheet(cause) for cause in CAUSES[number]} for number in CAUSES}
 REFUSALS[1] = {name: short_sheet(count) for name, count in SHORT_SHEETS.items()}
+REFUSALS[6].update(rows_of_10_bytes_in_version_2=rows_of_another_version(FULL_ROWS, DAY_ROWS),
+                   rows_of_12_bytes_in_version_1=rows_of_another_version(DAY_ROWS, FULL_ROWS))
+REFUSALS[18].update(only_the_first_row=wrong_row(first_of, few_rows), only_the_last_row=wrong_row(last_of, few_rows),
+                    only_the_last_of_32=wrong_row(last_of, lambda rng: MOST_ROWS))
 
 
 def refusal_groups(room):
@@ -356,6 +432,11 @@ def causes_to_join(rng, numbers):
             return causes
 
 
+def numbers_to_join(rng, first):
+    """The number and those tried after it that a sheet of the case's version can break: 18 is for version 2."""
+    return [number for number in tried_from(first) if number != 18 or rng.version == DAY_ROWS]
+
+
 def break_rules(rng, first, later, room):
     """Breaks two rules, now and then more that are tried later. Gives the sheet's bytes and the buffer's length.
 
@@ -364,11 +445,11 @@ def break_rules(rng, first, later, room):
     """
     numbers = {first, later}
     while rng.random() < 0.25:
-        numbers.add(rng.choice(tried_from(first)))
+        numbers.add(rng.choice(numbers_to_join(rng, first)))
     causes = causes_to_join(rng, numbers)
     touched = {cause.touches for cause in causes}
     producers = rng.randrange(1, 3) if touched & {"producers", "rows"} or rng.random() < 0.3 else 0
-    sheet = draw_sheet(rng, producers, rng.randrange(2, 5) if producers else 0, rng.randrange(2, 5))
+    sheet = in_version(rng, draw_sheet(rng, producers, rng.randrange(2, 5) if producers else 0, rng.randrange(2, 5)))
     # A cause of the length comes last: it is to see the sheet as it will be handed over.
     for cause in causes:
         usual = last_of if cause.number == first else first_of
@@ -443,7 +524,7 @@ def any_bytes(rng, content):
 def any_bytes_with_length(rng, content):
     any_bytes(rng, content)
     content += bytes(14)
-    content[0:6] = len(content).to_bytes(4, "big") + bytes((1, rng.randrange(27, 33)))
+    content[0:6] = len(content).to_bytes(4, "big") + bytes((rng.version, rng.randrange(27, 33)))
 
 
 def any_records(rng, content):

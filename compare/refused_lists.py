@@ -12,7 +12,7 @@ from drawing import capacity
 from records import ENTRY, FRONT, MOST_CONSUMERS, TOP_CAPACITY, Sheet, Transfer
 from refusals import BAD_LIST, FILED_LATE, LAST_DAY, LAST_FILING_DAY, OVERDRAWN, TRIED_IN_LIST
 from refused import LARGEST_4
-from refused_changes import OF_SHEET, damaged_kinds, refused_sheets
+from refused_changes import LAST_OF_SHEET, OF_SHEET, damaged_kinds, refused_sheets
 from transfer_lists import TransferList
 
 # ------------------------------------------------------------------ 13: the list's form
@@ -336,8 +336,8 @@ def list_with_both(put_cause, later):
 SEVERAL_RULES = {f"{first}_and_{later}": sheet_and_list(first, FAULTS[later].values())
                  for first in OF_SHEET for later in TRIED_IN_LIST}
 # Each cause of 13 with the last of the sheet's numbers: whatever is tried before that one is found out.
-SEVERAL_RULES.update((f"{OF_SHEET[-1]}_and_{BAD_LIST}_{name}", sheet_and_list(OF_SHEET[-1], [fault]))
-                     for name, fault in FAULTS_13.items())
+SEVERAL_RULES.update((f"{last}_and_{BAD_LIST}_{name}", sheet_and_list(last, [fault]))
+                     for last in LAST_OF_SHEET for name, fault in FAULTS_13.items())
 SEVERAL_RULES.update((f"{BAD_LIST}_{name}_and_{later}", list_with_both(put_cause, later))
                      for name, put_cause in CAUSES_13.items() for later in LATER_ENTRIES)
 SEVERAL_RULES[f"{FILED_LATE}_and_{OVERDRAWN}"] = list_with_both(entry_behind(late_entry), OVERDRAWN)

@@ -11,7 +11,7 @@ from powers import ABOVE, AMONG, draw_hour
 from records import COMPLEX_FRONT, COMPLEX_HOUR, MOST_CONSUMERS, TOP_CAPACITY, Month, Sheet, complex_length
 from refusals import BAD_RECORD, HIGH_POWER, TRIED_IN_RECORD
 from refused import LARGEST_4, above
-from refused_changes import OF_SHEET, damaged_kinds, one_byte_changed, refused_sheets
+from refused_changes import LAST_OF_SHEET, OF_SHEET, damaged_kinds, one_byte_changed, refused_sheets
 from taken_records import plain_record, some_sheet
 
 DAY = 24 * COMPLEX_HOUR
@@ -227,8 +227,8 @@ CAUSES = {BAD_RECORD: {**TOO_SHORT, **CAUSES_16}, HIGH_POWER: CAUSES_17}
 SEVERAL_RULES = {f"{first}_and_{later}": with_record(turned_down_by(first), list(CAUSES[later].values()))
                  for first in OF_SHEET for later in TRIED_IN_RECORD}
 # Each cause of 16 with the last of the sheet's numbers: whatever is tried before that one is found out.
-SEVERAL_RULES.update((f"{OF_SHEET[-1]}_and_{BAD_RECORD}_{name}", with_record(turned_down_by(OF_SHEET[-1]), [cause]))
-                     for name, cause in CAUSES[BAD_RECORD].items())
+SEVERAL_RULES.update((f"{last}_and_{BAD_RECORD}_{name}", with_record(turned_down_by(last), [cause]))
+                     for last in LAST_OF_SHEET for name, cause in CAUSES[BAD_RECORD].items())
 SEVERAL_RULES.update((f"{BAD_RECORD}_{name}_and_{HIGH_POWER}", both_in_record(cause))
                      for name, cause in CAUSES_16.items())
 

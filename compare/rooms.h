@@ -22,6 +22,8 @@
 #include <sys/mman.h>
 #include <unistd.h>
 
+#include "capacity.h"
+
 /* The most bytes of a buffer. */
 #define ROOM ((size_t)1 << 20)
 
@@ -166,6 +168,12 @@ static void write_whole(FILE *out, const uint8_t *bytes, size_t length)
 static uint32_t four_bytes(const uint8_t *bytes)
 {
     return (uint32_t)bytes[0] << 24 | (uint32_t)bytes[1] << 16 | (uint32_t)bytes[2] << 8 | bytes[3];
+}
+
+/* Whether an answer is a refusal of the sheet by itself. */
+static int refuses_sheet(int64_t answer)
+{
+    return (answer <= -CAPACITY_NO_HEADER && answer >= -CAPACITY_BAD_FACTOR) || answer == -CAPACITY_BAD_DAYS;
 }
 
 /* An answer: the refusal's number, or the count of the bytes that follow. */

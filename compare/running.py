@@ -4,6 +4,7 @@ A SheetRun settles sheets, a Run2015 settles them under the text of 2015, a List
 sheets, a RecordRun writes complexes' peaks into them. What must hold of each answer by itself is checked here too.
 """
 import re
+from contextlib import contextmanager
 from pathlib import Path
 
 import list_cases
@@ -37,7 +38,22 @@ class Run:
         self.name, self.seed, self.folder, self.keep = name, seed, Path(folder), keep
 
     def answers(self, start, cases):
-        """The answers on which both programs agree, and the rival's marks."""
+        """The answers on which both programs agree."""
+        with self.written(start, cases) as run:
+            return self.agreed(run, start, cases)
+
+    def answers_and_marks(self, start, cases):
+        """These, and for each case the line of the rival's marks."""
+        with self.written(start, cases) as run:
+            answers = self.agreed(run, start, cases)
+            marks = run([programs.RIVAL, self.marks_command], "marks").read_text().splitlines()
+        if len(marks) != len(cases):
+            raise programs.Trouble(f"{self.name} {start}: the rival did not mark {len(cases)} cases")
+        return answers, marks
+
+    @contextmanager
+    def written(self, start, cases):
+        """The cases in a file, and a function that runs a program over them and gives the file that it wrote."""
         files = {part: self.folder / f"{self.name}-{start:06}.{part}" for part in ("cases", "rival", "module", "marks")}
         programs.write_cases(files["cases"], cases)
 
@@ -45,18 +61,23 @@ class Run:
             status, printed = programs.run_program([*program, files["cases"], files[part], *words])
             if status != 0:
                 self.stopped(part, status, printed, start, cases)
-        run([programs.RIVAL, self.answer_command], "rival")
-        run(self.driver, "module", start)
-        by_rival, by_module = (programs.read_answers(files[part], len(cases)) for part in ("rival", "module"))
-        self.compare(start, cases, by_rival, by_module)
-        run([programs.RIVAL, self.marks_command], "marks")
-        marks = files["marks"].read_text().splitlines()
-        if len(marks) != len(cases):
-            raise programs.Trouble(f"{files['marks']} does not hold the marks of {len(cases)} cases")
+            return files[part]
+        yield run
         if not self.keep:
             for file in files.values():
-                file.unlink()
-        return by_rival, marks
+                file.unlink(missing_ok=True)
+
+    def agreed(self, run, start, cases):
+        by_rival = programs.read_answers(run([programs.RIVAL, self.answer_command], "rival"), len(cases))
+        by_module = programs.read_answers(run(self.driver, "module", start), len(cases))
+        self.compare(start, cases, by_rival, by_module)
+        return by_rival
+
+    def check_again(self, start, cases, wanted, words):
+        """Other cases are to get answers that are known already. words: what it means if one does not."""
+        for index, (case, answer, again) in enumerate(zip(cases, wanted, self.answers(start, cases)), start):
+            if again != answer:
+                raise self.report(index, case, f"{answer_text(again)}, {words}")
 
     def stopped(self, part, status, printed, start, cases):
         found = re.search(r"case (\d+)", printed)

@@ -5,7 +5,6 @@
 
 A case is a kind (case_kinds.py), a sheet's bytes and the length of the result buffer.
 """
-import random
 import sys
 from copy import deepcopy
 from functools import partial
@@ -23,6 +22,8 @@ from case_kinds import Kinds, in_bytes
 from records import HEADER, MOST_CONSUMERS, MOST_ROWS, TOP_CAPACITY, TOP_Z
 from refusals import BUFFER_NUMBER, FORM, TRIED
 from refused import SETTLEMENT_ROOM
+from row_days import ROW_DAYS
+from versions import Draws, for_month, in_versions
 
 LONGEST_BUFFER = 2000
 
@@ -52,30 +53,31 @@ BUFFERS = ("none", "shorter", "shorter_by_one", "exact", "longer_by_one", "much_
 # The corners of each group. A corner draws a Sheet, or bytes where the sheet is damaged, or bytes with the length of
 # the result buffer where it decides on both.
 GROUPS = {
-    "checked_months": accepted.CHECKED_MONTHS,
-    "slips": accepted.SLIPS,
+    "checked_months": in_versions(accepted.CHECKED_MONTHS, lambda rng, sheet: for_month(sheet)),
+    "slips": in_versions(accepted.SLIPS),
     **refused.refusal_groups(SETTLEMENT_ROOM),
     "several_rules": refused.several_rules(SETTLEMENT_ROOM),
-    "bands_of_k1": bands.BANDS_OF_K1,
-    "bands_of_consumers": bands.BANDS_OF_CONSUMERS,
-    "ties": ties.TIES,
-    "zero_counts": {**accepted.ZERO_COUNTS, "rows_without_producers": refused.rows_without_producers},
-    "months": accepted.MONTHS,
-    "ceilings": accepted.CEILINGS,
-    "powers": powers.POWERS,
-    "cut": accepted.CUT,
-    "credits": accepted.CREDITS,
-    "largest": accepted.LARGEST,
+    "bands_of_k1": in_versions(bands.BANDS_OF_K1),
+    "bands_of_consumers": in_versions(bands.BANDS_OF_CONSUMERS),
+    "ties": in_versions(ties.TIES),
+    "zero_counts": in_versions({**accepted.ZERO_COUNTS, "rows_without_producers": refused.rows_without_producers}),
+    "months": in_versions(accepted.MONTHS),
+    "ceilings": in_versions(accepted.CEILINGS),
+    "powers": in_versions(powers.POWERS),
+    "cut": in_versions(accepted.CUT),
+    "credits": in_versions(accepted.CREDITS),
+    "largest": in_versions(accepted.LARGEST),
+    "row_days": ROW_DAYS,
     "damaged": refused.DAMAGED,
     "buffers": {form: refused.accepted_sheet for form in BUFFERS},
-    "ordinary": accepted.ORDINARY,
+    "ordinary": in_versions(accepted.ORDINARY),
 }
 
 # Cases of each group in a hundred.
 SHARES = {
     "checked_months": 1, "slips": 4, "several_rules": 8, "bands_of_k1": 10, "bands_of_consumers": 8, "ties": 10,
-    "zero_counts": 3, "months": 8, "ceilings": 4, "powers": 4, "cut": 5, "credits": 5, "largest": 2, "damaged": 6,
-    "buffers": 4, "ordinary": 6, **{f"refusal_{number}": 1 for number in TRIED},
+    "zero_counts": 3, "months": 8, "ceilings": 4, "powers": 4, "cut": 5, "credits": 5, "largest": 2, "row_days": 6,
+    "damaged": 6, "buffers": 4, "ordinary": 6, **{f"refusal_{number}": 1 for number in TRIED},
 }
 
 # ------------------------------------------------------------------ cases
@@ -137,7 +139,7 @@ KINDS = SheetKinds("", GROUPS, SHARES, SETTLEMENT_ROOM)
 
 # ------------------------------------------------------------------ pairs of demand 3
 
-PAIR_GROUPS = ("bands_of_k1", "bands_of_consumers", "ties", "cut", "credits", "ordinary", "months", "slips")
+PAIR_GROUPS = ("bands_of_k1", "bands_of_consumers", "ties", "cut", "credits", "row_days", "ordinary", "months", "slips")
 
 
 def step(rng, figure):
@@ -225,7 +227,8 @@ def worsened(rng, sheet):
 
 
 def draw_pair(rng, index, groups, taken, second_of):
-    """The first sheet is a corner of a group, the groups that are taken in turn; the second is made of it."""
+    """The first sheet is a corner of a group, the groups that are taken in turn; the second is made of it, with the
+    days of its rows."""
     group = "largest" if index % 50 == 49 else taken[index % len(taken)]
     corner = rng.choice(list(groups[group]))
     sheet = groups[group][corner](rng)
@@ -233,7 +236,7 @@ def draw_pair(rng, index, groups, taken, second_of):
 
 
 def pair(seed, index):
-    return draw_pair(random.Random(f"{seed}/pair/{index}"), index, GROUPS, PAIR_GROUPS, worsened)
+    return draw_pair(Draws(f"{seed}/pair/{index}"), index, GROUPS, PAIR_GROUPS, worsened)
 
 
 def pairs(seed, count, start=0):

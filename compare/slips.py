@@ -1,8 +1,21 @@
-"""Slips that a reader of document 01 makes, and modules that settle nothing.
+"""Slips that a reader of document 01 and of the requests makes, and modules that settle nothing.
 
 Each is told in plain words, with one edit or more: a module of crates/rules/specs, a text that stands there once, and
 the text that the slip puts in its place. That text may name any definition, imported there or not.
 """
+
+# Texts of Rows that several slips change: the actual volume of row j, and a volume through coefficients and days.
+ACTUAL = "through (afterCut m j) (coefficients m (m .row j .producer)) (daysCovered (m .header .days) (m .row j))"
+IN_TENTHS = "toTenths (forDays covered (running (inMillionths volume) ks))"
+
+# Row j's volume for the days that it covers, rounded to a tenth, and the sums of these for producer p: of its support
+# rows, and of all.
+FOR_DAYS = "(forDays (daysCovered (m .header .days) (m .row j)) (m .row j .volume))"
+T_FOR_DAYS = f"(sum (λ j. when (owns m p j && support m j) {FOR_DAYS}) (m .header .rows))"
+S_FOR_DAYS = f"(sum (λ j. when (owns m p j) {FOR_DAYS}) (m .header .rows) + m .producer p .deductible)"
+
+# The tests of the figures but 18, and 18.
+BEFORE_18, ALONE_18 = "take 5 (figureTests (monthOf s))", "drop 5 (figureTests (monthOf s))"
 
 SLIPS = [
     # units and rounding
@@ -43,8 +56,8 @@ SLIPS = [
       ".producer) + bilateralVolume m (m .row j .producer))")),
     ("the cut taken from the actual volume",
      ("Rows",
-      "through (afterCut m j) (coefficients m (m .row j .producer))",
-      "through (m .row j .volume) (coefficients m (m .row j .producer)) - leftToCut m (m .row j .producer) j")),
+      ACTUAL,
+      ACTUAL.replace("afterCut m j", "m .row j .volume") + " - leftToCut m (m .row j .producer) j")),
     ("support rows cut first",
      ("Cut",
       "excess m p - sum (ownVolume m p) j",
@@ -107,13 +120,13 @@ SLIPS = [
     # rows
     ("coefficients multiplied with each other first",
      ("Rows",
-      "toTenths (running (inMillionths volume) ks)",
-      "toTenths (rounded (inMillionths volume * running one ks) one)")),
+      "running (inMillionths volume) ks",
+      "rounded (inMillionths volume * running one ks) one")),
     ("rounded once, at the end",
      ("Rows", "running (rounded (product * k) one) ks", "running (product * k) ks"),
      ("Rows",
-      "toTenths (running (inMillionths volume) ks)",
-      "rounded (running (inMillionths volume) ks) (100000 * one ^ length ks)")),
+      IN_TENTHS,
+      "rounded (running (inMillionths volume) ks * covered .part) (covered .whole * 100000 * one ^ length ks)")),
     ("rounded to a tenth after each",
      ("Rows",
       "running (rounded (product * k) one) ks",
@@ -163,10 +176,10 @@ SLIPS = [
     ("bytes past the result cleared", ("Fields", "drop (length p) buffer", "replicate (length buffer - length p) 0")),
 
     # modules that settle nothing
-    ("every row settled at zero", ("Rows", "through (afterCut m j) (coefficients m (m .row j .producer))", "0")),
+    ("every row settled at zero", ("Rows", ACTUAL, "0")),
     ("contract volumes copied",
      ("Cut", "m .row j .volume - leftToCut m (m .row j .producer) j", "m .row j .volume"),
-     ("Rows", "through (afterCut m j) (coefficients m (m .row j .producer))", "m .row j .volume")),
+     ("Rows", ACTUAL, "m .row j .volume")),
     ("nothing written", ("Outcome", "(over (resultOf (monthOf s)) out)", "out")),
     ("the count invented", ("Outcome", "(resultLength (headerOf s))", "21")),
     ("every sheet turned down", ("Refusals", "refusal s room = firstOf (tests s room)", "refusal s room = 12")),
@@ -304,4 +317,57 @@ SLIPS = [
     ("nothing written under the text of 2015", ("Outcome2015", "(over (result2015 (monthOf s)) out)", "out")),
     ("every sheet turned down under the text of 2015",
      ("Outcome2015", "refusal2015 s room = firstOf (tests2015 s room)", "refusal2015 s room = 12")),
+
+    # contracts that begin inside a month
+    ("days covered one too few", ("Rows", "suc (r .last) - r .first", "r .last - r .first")),
+    ("the days before the first day", ("Rows", "suc (r .last) - r .first", "r .first - 1")),
+    ("the share over 30 days in every month", ("Rows", "- r .first) days", "- r .first) 30")),
+    ("the share taken before k1", ("Rows", IN_TENTHS, "toTenths (running (forDays covered (inMillionths volume)) ks)")),
+    ("the share taken before k10",
+     ("Rows",
+      IN_TENTHS,
+      "toTenths (running (forDays covered (running (inMillionths volume) (take 9 ks))) (drop 9 ks))")),
+    ("the share taken after the tenth",
+     ("Rows", IN_TENTHS, "forDays covered (toTenths (running (inMillionths volume) ks))")),
+    ("the share not rounded to a millionth",
+     ("Rows", IN_TENTHS, "rounded (running (inMillionths volume) ks * covered .part) (covered .whole * 100000)")),
+    ("the share rounded to a millionth before it is taken",
+     ("Rows", "rounded (product * covered .part) (covered .whole)",
+      "rounded (product * rounded (one * covered .part) (covered .whole)) one")),
+    ("T of the covered days", ("Coefficients", "(m .producer p) (supportVolume m p)", f"(m .producer p) {T_FOR_DAYS}")),
+    ("S of the covered days", ("Coefficients", "(summedCapacity m p)", S_FOR_DAYS)),
+    ("the cut of the covered days", ("Cut", "= summedCapacity m p -", f"= {S_FOR_DAYS} -")),
+    ("the price divided by the days too",
+     ("Rows", "money (actual m j) (m .row j .price)",
+      "forDays (daysCovered (m .header .days) (m .row j)) (money (actual m j) (m .row j .price))")),
+    ("the credit of the month",
+     ("Consumers", "c) (actual m j)", "c) (through (afterCut m j) (coefficients m (m .row j .producer)) (ratio 1 1))")),
+    ("version 2 read with rows of 10 bytes", ("Sheet", "cond (statesDays l) 12 10", "10")),
+    ("the days in front of the price",
+     ("Sheet", "price = bigEndian 4 s (at + 6);\n      first = dayAt l s (at + 10) 1",
+      "price = bigEndian 4 s (at + cond (statesDays l) 8 6);\n      first = dayAt l s (at + 6) 1"),
+     ("Sheet", "dayAt l s (at + 11)", "dayAt l s (at + 7)")),
+    ("a version 1 row covers 30 days of 31",
+     ("Sheet", "dayAt l s (at + 11) (l .header .days)", "dayAt l s (at + 11) (min (l .header .days) 30)")),
+    ("version 1 turned down", ("Refusals", "ltb (version s) 1", "ltb (version s) 2")),
+    ("18 tried before 12",
+     ("Refusals", "test 12 (someConsumer m (badFactor (m .header)))", "test 18 (someRow m (badDays (m .header)))"),
+     ("Refusals",
+      "test 18 (someRow m (badDays (m .header)))\n    ∷ []",
+      "test 12 (someConsumer m (badFactor (m .header)))\n    ∷ []")),
+    ("18 not tried of a sheet with a list",
+     ("Transfers", "sheetTests s ++ (listTests", f"formTests s ++ {BEFORE_18} ++ (listTests")),
+    ("18 tried after a list's numbers",
+     ("Transfers",
+      "sheetTests s ++ (listTests (headerOf s .consumers) l ++ turnTests (contracts (monthOf s)) l)",
+      f"formTests s ++ {BEFORE_18} ++ (listTests (headerOf s .consumers) l ++ turnTests (contracts (monthOf s)) l) ++ "
+      f"{ALONE_18}")),
+    ("18 tried after a record's numbers",
+     ("Averaging",
+      "sheetTests s ++ recordTests (headerOf s) r",
+      f"formTests s ++ {BEFORE_18} ++ recordTests (headerOf s) r ++ {ALONE_18}")),
+    ("18 not tried under the text of 2015",
+     ("Outcome2015",
+      "tests2015 s room = testsFor (length2015 (headerOf s)) s room",
+      f"tests2015 s room = formTests s ++ roomTests (length2015 (headerOf s)) room ++ {BEFORE_18}")),
 ]

@@ -8,15 +8,17 @@ kind of answer (1: 0 result, 1 refusal), byte count or refusal number (4), the s
 OUTDIR/text_2015_NAME holds sheets under the text of 2015 in the same way.
 OUTDIR/transfers holds sheets with lists of transfers: sheet length (4), list length (4), kind of answer (1: 0 done,
 1 refusal), byte count 0 or refusal number (4), the sheet, the list, and the sheet afterwards, which after a refusal is
-the sheet again. OUTDIR/averages holds sheets with a complex's record in the same way. FILE gets a line for each file of
-sheets to be settled, its name and its count of cases, in a fixed order.
+the sheet again. OUTDIR/averages holds sheets with a complex's record in the same way. In each file sheets of version 2
+stand behind those of version 1. FILE gets a line for each file of sheets to be settled, its name and its count of
+cases, in a fixed order.
 """
 import argparse
-import random
 import struct
 import sys
 import tempfile
+from itertools import islice
 from pathlib import Path
+from typing import NamedTuple
 
 sys.dont_write_bytecode = True
 
@@ -26,13 +28,17 @@ import record_cases
 import sheets
 import text_2015_cases
 from bands import EDGES
+from coverage import MARKS_OF_DAYS, MARKS_OF_DAYS_REFUSED, marks_of
 from programs import Trouble
-from refusals import FIGURES
+from records import DAY_ROWS, FULL_ROWS
+from refusals import FIGURES, tried_before
+from sheets import SheetKinds
 from text_2015_run import MARKS
+from versions import Draws
 
 SEED = 152
 LONGEST_SHEET = 65_000
-MOST_BYTES = 1_700_000
+MOST_BYTES = 2_300_000
 DRAWS = 40
 
 # A sheet with one producer of 28 days, up to a few rows and consumers; a sheet without producers.
@@ -74,6 +80,9 @@ LEFT_OUT = {f"bands_of_k1/{side}_{edge}" for side in ("exact", "exact_next") for
     "bands_of_k1/use_below_deductible", "bands_of_k1/small_deductible", "largest/full_counts", "refusal_5/producers_7",
     "refusal_5/rows_33", "refusal_10/producer_other", "refusal_10/consumer_other", "zero_counts/rows_without_volume"}
 MONTHS_STORED = 28  # all months once, each with the next form of holidays
+# What only a sheet of version 2 can be.
+ONLY_IN_VERSION_2 = {f"several_rules/{number}_and_18" for number in tried_before(18)} | {
+    "refusal_6/rows_of_10_bytes_in_version_2", "refusal_6/rows_of_12_bytes_in_version_1"}
 
 # Sheets with a list, each kind once: lists that are applied, every cause of 13 to 15, the order of the numbers.
 SHORT_LIST = 130    # sheet and list in bytes, if the kind allows it
@@ -107,24 +116,69 @@ TEXT_2015 = {
     "text_2015_ties": ("volumes", "charges"),
     "text_2015_rooms": ("counts/no_consumers", "counts/one_consumer", "counts/all_32_consumers", "buffers", "rooms"),
     "text_2015_refusals": (
-        "refusal_1/thirteen_bytes", "refusal_2/one_more", "refusal_3/version_2", "refusal_4/days_27",
+        "refusal_1/thirteen_bytes", "refusal_2/one_more", "refusal_3/version_3", "refusal_4/days_27",
         "refusal_5/consumers_33", "refusal_6/one_byte_more", "refusal_7", "refusal_8/no_plan", "refusal_9/peak",
         "refusal_9/contract", "refusal_9/outside_last_hour", "refusal_10/no_producers", "refusal_11/consumer_price",
         "refusal_12/z_9", "refusal_12/grid_days_next", "several_rules/6_and_7",
-        *(f"several_rules/7_and_{number}" for number in FIGURES)),
+        *(f"several_rules/7_and_{number}" for number in FIGURES if number != 18)),
+}
+
+# Sheets of version 2, each kind once, behind those of version 1 in the files that there are. All marks of request 5
+# must be reached, in the files for the settlement and in those for the text of 2015. Rows that cover part of a month,
+# and days that no month has, are with the months.
+ORDERS_OF_18 = tuple(f"several_rules/{number}_and_18" for number in FIGURES if number != 18)
+VERSION_2 = {
+    "checked_months": ("checked_months/producer_cut",),
+    "refusal_2": ("refusal_2/one_more", "refusal_2/bytes_lost"),
+    "refusal_4": ("refusal_4/days_27", "refusal_4/holiday_next"),
+    "refusal_5": ("refusal_5/consumers_33",),
+    "refusal_6": ("refusal_6/one_byte_less", "refusal_6/rows_of_10_bytes_in_version_2",
+                  "refusal_6/rows_of_12_bytes_in_version_1"),
+    "refusal_7": ("refusal_7/shorter_by_one",),
+    "refusal_9": ("refusal_9/row_volume",),
+    "refusal_10": ("refusal_10/consumer_next",),
+    "refusal_11": ("refusal_11/row_price",),
+    "refusal_12": ("refusal_12/z_9",),
+    "several_rules": ORDERS_OF_18 + ("several_rules/7_and_18", "several_rules/6_and_12"),
+    "bands_of_consumers": ("bands_of_consumers/half_200",),
+    "ties": ("ties/order_of_k9_and_k10",),
+    "months": (
+        "row_days/month_of_31", "row_days/one_day_of_29", "row_days/first_day_only_of_28",
+        "row_days/last_day_only_of_31", "row_days/begins_inside_of_30", "row_days/ends_inside_of_31",
+        "row_days/both_inside_of_28", "row_days/exact_of_29", "row_days/rounded_down_of_31",
+        "row_days/on_a_half_of_28", "row_days/on_a_half_of_30", "row_days/rounded_up_of_29", "row_days/half_a_tenth",
+        "row_days/after_k2", "row_days/after_k10", "row_days/before_the_tenth", "row_days/cut_into_a_later",
+        "row_days/k1_next_50", "row_days/k4_beside_the_cut", "row_days/credit_of_the_days",
+        "refusal_18/first_0", "refusal_18/first_and_last_0", "refusal_18/last_one_before", "refusal_18/last_next",
+        "refusal_18/first_and_last_past", "refusal_18/only_the_first_row", "refusal_18/only_the_last_row"),
+    "credits": ("credits/drawn",),
+    "largest": ("largest/full_counts_31_days",),
+    "damaged": ("damaged/one_byte_changed", "damaged/any_records"),
+    "buffers": ("buffers/exact",),
+    "text_2015_bands": ("bands/next_500", "bands/half_1000", "not_known/credit_15"),
+    "text_2015_ties": ("volumes/half_of_11", "charges/half"),
+    "text_2015_rooms": ("buffers/exact", "rooms/as_the_settlement_needs"),
+    "text_2015_refusals": (
+        "refusal_3/version_0", "refusal_3/version_255", "refusal_6/rows_of_10_bytes_in_version_2",
+        "refusal_6/rows_of_12_bytes_in_version_1", "refusal_18/first_0", "refusal_18/last_one_before",
+        "refusal_18/last_next", "refusal_18/only_the_first_row", "refusal_18/only_the_last_row", *ORDERS_OF_18,
+        "several_rules/7_and_18"),
+    "transfers": ("applied/given_on", "long/behind_producers", "list_15/emptied_before", "several_rules/18_and_13"),
+    "averages": ("taken/rest_half", "long/behind_producers", "record_16/consumer_next",
+                 "several_rules/18_and_16_eight_bytes"),
 }
 
 
 def corners_stored(group):
-    corners = [corner for corner in sheets.GROUPS[group] if f"{group}/{corner}" not in LEFT_OUT]
+    corners = [corner for corner in sheets.GROUPS[group] if f"{group}/{corner}" not in LEFT_OUT | ONLY_IN_VERSION_2]
     return corners[:MONTHS_STORED] if group == "months" else corners
 
 
-def draw_stored(draw_case, seed, length, group, corner):
-    """The first of some draws that is short enough, or else the shortest."""
+def draw_stored(kinds, kind, length, name, version=FULL_ROWS):
+    """The first of some draws that is short enough, or else the shortest. name: what is drawn for, once."""
     shortest = None
     for draw in range(DRAWS):
-        case = draw_case(random.Random(f"{seed}/{draw}"), group, corner)
+        case = kinds.draw_case(Draws(f"{SEED}/{name}/{draw}", version=version), *kind.split("/"))
         if case.length <= length:
             return case
         if shortest is None or case.length < shortest.length:
@@ -132,17 +186,28 @@ def draw_stored(draw_case, seed, length, group, corner):
     return shortest
 
 
+def drawn_in_version_2(kinds, file, length):
+    return [draw_stored(kinds, kind, length, f"version_2/{file}/{kind}", DAY_ROWS) for kind in VERSION_2.get(file, ())]
+
+
 def stored_cases(group):
     times, length = PLAN[group]
-    cases = [draw_stored(sheets.KINDS.draw_case, f"{SEED}/{group}/{corner}/{number}", length, group, corner)
+    cases = [draw_stored(sheets.KINDS, f"{group}/{corner}", length, f"{group}/{corner}/{number}")
              for number in range(times) for corner in corners_stored(group)]
-    return [case for case in cases if len(case.sheet) <= LONGEST_SHEET]
+    short = [case for case in cases if len(case.sheet) <= LONGEST_SHEET]
+    return short + drawn_in_version_2(sheets.KINDS, group, min(length, ONE_PRODUCER))
 
 
 def kinds_of_2015(file):
-    """The kinds that a file of sheets under the text of 2015 stores."""
+    """The kinds that a file of sheets under the text of 2015 stores in version 1."""
     for stored in TEXT_2015[file]:
         yield from [stored] if "/" in stored else (f"{stored}/{corner}" for corner in text_2015_cases.GROUPS[stored])
+
+
+def stored_cases_2015(file):
+    kinds = text_2015_cases.KINDS
+    cases = [draw_stored(kinds, kind, NO_PRODUCER, f"2015/{kind}") for kind in kinds_of_2015(file)]
+    return cases + drawn_in_version_2(kinds, file, NO_PRODUCER)
 
 
 # The files of sheets that an entry changes: the kinds of its cases, those that are stored, the length if it can be.
@@ -178,36 +243,42 @@ def read_options():
     return options.parse_args()
 
 
-def answered_sheets(group, folder):
-    """The stored cases of a group, each in bytes."""
-    cases = stored_cases(group)
-    answers = programs.rival_answers(cases, folder)
-    check_intended(cases, answers, sheets.KINDS.intended_refusal)
-    if group == "checked_months":
-        programs.check_paper(cases, answers)
-    return list(map(stored_bytes, cases, answers))
-
-
-def answered_2015(folder):
-    """The files of sheets under the text of 2015, and the cases of each in bytes."""
-    kinds = text_2015_cases.KINDS
-    named = [(file, kind) for file in TEXT_2015 for kind in kinds_of_2015(file)]
-    cases = [draw_stored(kinds.draw_case, f"{SEED}/2015/{kind}", NO_PRODUCER, *kind.split("/")) for _, kind in named]
-    answers = programs.rival_answers(cases, folder, "batch2015")
-    check_intended(cases, answers, kinds.intended_refusal)
-    missed = {mark for marks in MARKS.values() for mark in marks} - programs.rival_marks(cases, folder, "marks2015")
+def check_reached(cases, folder, command, titles):
+    """The cases reach every mark of the titled lines."""
+    reached = {mark for line in programs.rival_marks(cases, folder, command) for mark in marks_of(line)}
+    missed = {mark for marks in titles.values() for mark in marks} - reached
     if missed:
-        raise Trouble(f"the stored sheets under the text of 2015 do not reach {', '.join(sorted(missed))}")
-    files = {file: [] for file in TEXT_2015}
-    for (file, _), case, answer in zip(named, cases, answers):
-        files[file].append(stored_bytes(case, answer))
-    return files
+        raise Trouble(f"{command}: the stored sheets do not reach {', '.join(sorted(missed))}")
+
+
+class Settled(NamedTuple):
+    """An entry that settles: its kinds of sheets, the rival's commands, the marks that stored cases are to reach."""
+    kinds: SheetKinds
+    command: str
+    marks_command: str
+    titles: dict
+
+
+SETTLEMENT = Settled(sheets.KINDS, "batch", "marks", {**MARKS_OF_DAYS, **MARKS_OF_DAYS_REFUSED})
+OLD_TEXT = Settled(text_2015_cases.KINDS, "batch2015", "marks2015", MARKS)
+
+
+def answered_sheets(entry, files, folder):
+    """Files of cases of an entry that settles: the cases of each in bytes."""
+    cases = [case for stored in files.values() for case in stored]
+    answers = programs.rival_answers(cases, folder, entry.command)
+    check_intended(cases, answers, entry.kinds.intended_refusal)
+    programs.check_paper(cases, answers)
+    check_reached(cases, folder, entry.marks_command, entry.titles)
+    told = map(stored_bytes, cases, answers)
+    return {file: list(islice(told, len(stored))) for file, stored in files.items()}
 
 
 def answered_changes(file, folder):
     """The stored cases of a file of sheets that are changed, each in bytes. The rival's command has the file's name."""
     kinds, stored, length = CHANGED[file]
-    cases = [draw_stored(kinds.draw_case, f"{SEED}/{file}/{kind}", length, *kind.split("/")) for kind in stored]
+    cases = [draw_stored(kinds, kind, length, f"{file}/{kind}") for kind in stored]
+    cases += drawn_in_version_2(kinds, file, length)
     answers = programs.rival_answers(cases, folder, file)
     check_intended(cases, answers, kinds.intended_refusal)
     return list(map(stored_change_bytes, cases, answers))
@@ -218,8 +289,8 @@ def main():
     programs.build_rival()
     programs.make_folder(programs.OUT)
     with tempfile.TemporaryDirectory(dir=programs.OUT) as folder:
-        files = {group: answered_sheets(group, folder) for group in PLAN}
-        files.update(answered_2015(folder))
+        files = answered_sheets(SETTLEMENT, {group: stored_cases(group) for group in PLAN}, folder)
+        files.update(answered_sheets(OLD_TEXT, {file: stored_cases_2015(file) for file in TEXT_2015}, folder))
         files.update((file, answered_changes(file, folder)) for file in CHANGED)
     total = sum(len(each) for stored in files.values() for each in stored)
     if total >= MOST_BYTES:

@@ -9,6 +9,7 @@ from complex_records import ComplexRecord, average_of, peak_of
 from drawing import capacity, draw_month, draw_sheet, flat, spread, with_average
 from powers import AMONG, AT_MOST, draw_hour
 from records import CONTROL_HOURS, MOST_CONSUMERS, TOP_CAPACITY, Month
+from versions import in_version
 
 # ------------------------------------------------------------------ sheets and records
 
@@ -17,7 +18,7 @@ def some_sheet(rng, month=None, consumers=None):
     """Consumers alone, one or more, in a month that as a rule has control days."""
     if consumers is None:
         consumers = rng.choice((1, 2, 2, 3, 4, rng.randrange(1, MOST_CONSUMERS), MOST_CONSUMERS))
-    return draw_sheet(rng, 0, 0, consumers, month or draw_month(rng, with_control_day=True))
+    return in_version(rng, draw_sheet(rng, 0, 0, consumers, month or draw_month(rng, with_control_day=True)))
 
 
 def some_consumer(rng, sheet):
@@ -271,7 +272,7 @@ def in_month(rng, month):
 
 def with_record(draw_longer):
     def draw(rng):
-        sheet = draw_longer(rng)
+        sheet = in_version(rng, draw_longer(rng))
         return sheet, plain_record(rng, sheet.month, some_consumer(rng, sheet))
     return draw
 

@@ -2,7 +2,6 @@
 
 Of a pair the second sheet is alike but for higher peaks.
 """
-import random
 from copy import deepcopy
 
 import accepted
@@ -14,6 +13,7 @@ from refusals import TRIED
 from refused import Room
 from sheets import BUFFERS, SheetKinds, draw_pair
 from text_2015_sheets import CHARGES, COUNTS, NOT_KNOWN, PEAKS, ROOMS, VOLUMES, consumers_sheet
+from versions import Draws, in_versions
 
 ROOM = Room(lambda rows, consumers: result_2015_length(consumers),
             ("none", "one_byte", "shorter_by_one", "three", "shorter"))
@@ -21,20 +21,20 @@ ROOM = Room(lambda rows, consumers: result_2015_length(consumers),
 # ------------------------------------------------------------------ cases
 
 GROUPS = {
-    "bands": {name: consumers_sheet(corner) for name, corner in PEAKS.items()},
-    "volumes": {name: consumers_sheet(corner) for name, corner in VOLUMES.items()},
-    "charges": CHARGES,
-    "not_known": NOT_KNOWN,
-    "counts": COUNTS,
+    "bands": in_versions({name: consumers_sheet(corner) for name, corner in PEAKS.items()}),
+    "volumes": in_versions({name: consumers_sheet(corner) for name, corner in VOLUMES.items()}),
+    "charges": in_versions(CHARGES),
+    "not_known": in_versions(NOT_KNOWN),
+    "counts": in_versions(COUNTS),
     **refused.refusal_groups(ROOM),
     "several_rules": refused.several_rules(ROOM),
-    "powers": powers.POWERS,
-    "credits": accepted.CREDITS,
-    "largest": accepted.LARGEST,
+    "powers": in_versions(powers.POWERS),
+    "credits": in_versions(accepted.CREDITS),
+    "largest": in_versions(accepted.LARGEST),
     "damaged": refused.DAMAGED,
     "buffers": {form: refused.accepted_sheet for form in BUFFERS},
     "rooms": ROOMS,
-    "ordinary": accepted.ORDINARY,
+    "ordinary": in_versions(accepted.ORDINARY),
 }
 
 # Cases of each group in a hundred.
@@ -61,7 +61,7 @@ def with_higher_peaks(rng, sheet):
 
 
 def pair(seed, index):
-    return draw_pair(random.Random(f"{seed}/2015-pair/{index}"), index, GROUPS, PAIR_GROUPS, with_higher_peaks)
+    return draw_pair(Draws(f"{seed}/2015-pair/{index}"), index, GROUPS, PAIR_GROUPS, with_higher_peaks)
 
 
 def pairs(seed, count, start=0):

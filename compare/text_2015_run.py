@@ -1,17 +1,19 @@
 """The fourth part of a run: both programs settle sheets' consumers under the text of 2015.
 
 Every sheet that is accepted is settled again in the room that the settlement's own result needs, by both entries: the
-settlement accepts it there, and so does this one, with the same result. And of two sheets alike but for higher peaks in
-the second: under neither text has a consumer a lower volume or charge.
+settlement accepts it there, and so does this one, with the same result. Every sheet of version 1 is settled again in
+version 2. And of two sheets alike but for higher peaks in the second: under neither text has a consumer a lower volume
+or charge.
 """
 import text_2015_cases
 from change_run import exact_case
-from coverage import Coverage
+from coverage import MARKS_OF_DAYS_REFUSED, Coverage
 from demand_3 import Rule, compare_pairs, moved_in
 from records import result_2015_figures
 from refusals import TRIED
-from running import CHUNK, Run2015, SheetRun, answer_text
+from running import CHUNK, Run2015, SheetRun
 from text_2015_sheets import EDGES
+from version_run import print_settled_again, settle_in_version_2
 
 MARKS = {
     "refusals": [f"N{number}" for number in TRIED] + ["7oneless"],
@@ -25,6 +27,8 @@ MARKS = {
     "ends": ["largest", "priciest", "zeroprice"],
     "consumers": [f"consumers{count}" for count in (0, 1, 32)],
     "room": ["roomexact", "roomless2021"],
+    "version": ["version2"],
+    **MARKS_OF_DAYS_REFUSED,
 }
 
 # ------------------------------------------------------------------ sheets
@@ -32,24 +36,23 @@ MARKS = {
 
 def settle_in_same_room(run, settling, start, cases, answers):
     """Gives how many sheets were accepted. All of them are, by both entries, in the room of the settlement's result."""
-    accepted = [(exact_case("2015/in_the_room_of_the_settlement", case.sheet), answer)
-                for case, answer in zip(cases, answers) if isinstance(answer, bytes)]
-    cases = [case for case, _ in accepted]
-    settling.answers(start, cases)
-    for index, ((case, answer), again) in enumerate(zip(accepted, run.answers(start, cases)[0]), start):
-        if again != answer:
-            raise run.report(index, case, f"{answer_text(again)}, which differ from the result in another room")
+    accepted = [(case, answer) for case, answer in zip(cases, answers) if isinstance(answer, bytes)]
+    exact = [exact_case("2015/in_the_room_of_the_settlement", case.sheet) for case, _ in accepted]
+    settling.answers(start, exact)
+    run.check_again(start, exact, [answer for _, answer in accepted], "which differ from the result in another room")
     return len(accepted)
 
 
-def compare_sheets(run, again, settling, count):
-    coverage, accepted = Coverage(MARKS, run.kinds.groups), 0
+def compare_sheets(run, again, in_version_2, settling, count):
+    coverage, accepted, settled_again = Coverage(MARKS, run.kinds.groups), 0, 0
     for start in range(0, count, CHUNK):
         cases = list(run.kinds.cases(run.seed, min(CHUNK, count - start), start))
-        answers, marks = run.answers(start, cases)
+        answers, marks = run.answers_and_marks(start, cases)
         coverage.add(cases, marks)
         accepted += settle_in_same_room(again, settling, accepted, cases, answers)
+        settled_again += settle_in_version_2(in_version_2, settled_again, cases, answers)
     print(f"text of 2015: {accepted} of {count} sheets accepted, and each by both entries in the settlement's room")
+    print_settled_again(settled_again, "of these sheets")
     return coverage
 
 
@@ -71,12 +74,13 @@ def compare_2015(options, folder):
     """Gives the words of what failed without being a difference, or none."""
     where, count = (options.seed, folder, options.keep), options.pairs_2015
     coverage = compare_sheets(Run2015("sheet-2015", *where), Run2015("sheet-2015-again", *where),
-                              SheetRun("sheet-2015-settled", *where), options.sheets_2015)
+                              Run2015("sheet-2015-in-version-2", *where), SheetRun("sheet-2015-settled", *where),
+                              options.sheets_2015)
     coverage.print_all("sheets under the text of 2015", "refusal_")
     failed = coverage.failure(options.sheets_2015, "sheets")
     if failed:
         return failed
     pairs = text_2015_cases.pairs
     compare_pairs(SheetRun("pair-2015-settled", *where), pairs, count)
-    moved = compare_pairs(Run2015("pair-2015", *where), pairs, count, HIGHER_PEAKS)
-    return moved_in(moved, count, "pairs with higher peaks", HIGHER_PEAKS)
+    found = compare_pairs(Run2015("pair-2015", *where), pairs, count, HIGHER_PEAKS)
+    return moved_in(found, count, "pairs with higher peaks", HIGHER_PEAKS)

@@ -171,20 +171,24 @@ def draw_odd_coefficient(rng, month, producer, number):
             return k
 
 
-def order_of(drawn, half):
-    """Two coefficients whose order shows: one is drawn, the other a half, all others are 1.
+def sheet_before_half(rng, month, drawn):
+    """A row by one coefficient that is drawn, all others being 1: whether a half comes before it or after it shows.
 
     volume × k is 999,985 to 999,989 past a multiple of two millions, in tenths of a millionth. k first: rounded
     upward, then half of it upward again, to a half tenth of a megawatt. The half first: below it.
     """
+    producer = full_producer(month)
+    volume = 0
+    while not 1000 <= volume <= TOP_CAPACITY:
+        k = draw_odd_coefficient(rng, month, producer, drawn)
+        volume = (999_985 + rng.randrange(5)) * pow(k, -1, 2 * ONE) % (2 * ONE)
+    return Sheet(month, [producer], [Row(0, 0, volume, draw_price(rng))], [plain_consumer(rng, 5000, 6000)])
+
+
+def order_of(drawn, half):
+    """Two coefficients whose order shows: one is drawn, the other a half."""
     def draw(rng):
-        month = draw_month(rng, with_control_day=True)
-        producer = full_producer(month)
-        volume = 0
-        while not 1000 <= volume <= TOP_CAPACITY:
-            k = draw_odd_coefficient(rng, month, producer, drawn)
-            volume = (999_985 + rng.randrange(5)) * pow(k, -1, 2 * ONE) % (2 * ONE)
-        sheet = Sheet(month, [producer], [Row(0, 0, volume, draw_price(rng))], [plain_consumer(rng, 5000, 6000)])
+        sheet = sheet_before_half(rng, draw_month(rng, with_control_day=True), drawn)
         set_half(rng, sheet, half)
         return sheet
     return draw

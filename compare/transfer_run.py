@@ -3,6 +3,8 @@
 Of every list that is applied, beside what ListRun checks: the sheet is accepted before and after, with the same room.
 And of pairs of sheets as in demand 3: one list gets the same answer from both, and demand 3 holds of them afterwards.
 """
+from collections import Counter
+
 import list_cases
 from change_cases import ChangeCase
 from change_run import compare_cases, exact_case
@@ -17,8 +19,9 @@ MARKS = {
         "short", "length", "multiple", "version", "day0", "dayabove", "giver", "taker", "same", "with14")],
     "14": ["N14", "day21", "day31"],
     "15": ["N15"] + [f"15{cause}" for cause in ("giver", "taker", "turn", "first", "oneabove")],
+    "18": ["18with13"],
     "applied": ["done", "entries0", "entries1", "entriesmany", "day1", "day20", "amount0", "takerfull", "giverempty",
-                "chain", "repeated"],
+                "chain", "repeated", "version2"],
 }
 
 # ------------------------------------------------------------------ demand 3
@@ -44,27 +47,28 @@ def check_same_answer(run, start, cases, answers):
 def compare_pairs(run, settling, count):
     """Applies one list to two sheets and checks demand 3 afterwards.
 
-    Gives how many pairs had a figure that moved, and in how many the list changed contract volumes.
+    Counts as check_pairs does, and in how many pairs the list changed contract volumes.
     """
-    moved = changed = 0
+    found = Counter()
     for start in range(0, count, CHUNK):
         pairs = list_cases.pairs(run.seed, min(CHUNK, count - start), start)
         cases = [ChangeCase(pair.kind, sheet, pair.list)
                  for pair in pairs for sheet in (pair.first, pair.second)]
-        answers, _ = run.answers(2 * start, cases)
+        answers = run.answers(2 * start, cases)
         check_same_answer(run, 2 * start, cases, answers)
         settled = [exact_case(case.kind, sheet_after(case, answer)) for case, answer in zip(cases, answers)]
-        results, _ = settling.answers(2 * start, settled)
-        moved += check_pairs(settling, 2 * start, settled, results)
+        results = settling.answers(2 * start, settled)
+        found += check_pairs(settling, 2 * start, settled, results)
         # Of a pair one sheet will do: both have the same contract volumes, before the list and after it.
-        changed += sum(before.sheet != after.sheet for before, after in zip(cases[::2], settled[::2]))
-    return moved, changed
+        found["changed"] += sum(before.sheet != after.sheet for before, after in zip(cases[::2], settled[::2]))
+    return found
 
 
-def changed_in(changed, count):
+def changed_in(found, count):
     """As moved_in, of the contract volumes."""
-    print(f"in {changed} of these pairs the list changed contract volumes")
-    return "in less than half of the pairs with a list it changed contract volumes" if 2 * changed < count else ""
+    print(f"in {found['changed']} of these pairs the list changed contract volumes")
+    too_few = 2 * found["changed"] < count
+    return "in less than half of the pairs with a list it changed contract volumes" if too_few else ""
 
 
 # ------------------------------------------------------------------ both
@@ -78,5 +82,5 @@ def compare_transfers(options, folder):
     if failed:
         return failed
     count = options.list_pairs
-    moved, changed = compare_pairs(ListRun("pair-list", *where), SheetRun("pair-list-sheet", *where), count)
-    return moved_in(moved, count, "pairs with a list") or changed_in(changed, count)
+    found = compare_pairs(ListRun("pair-list", *where), SheetRun("pair-list-sheet", *where), count)
+    return moved_in(found, count, "pairs with a list") or changed_in(found, count)

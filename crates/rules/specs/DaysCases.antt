@@ -1,7 +1,7 @@
 -- Contracts that begin or end inside a month, and sheets of version 2: figures of our own. [Requests, 5]
 use Prim.Native.Nat.{ℕ}
 use mathlib.Core.List.{List, [], _∷_, _++_}
-use lib.ListN.{replicate}
+use lib.ListN.{replicate, drop}
 use Rattle.rules.specs.Range.{when}
 use Rattle.rules.specs.Units.{one}
 use Rattle.rules.specs.Month.{Row, Consumer, Month}
@@ -9,9 +9,12 @@ use Rattle.rules.specs.Sheet.{layoutOf, monthOf, sheetLength, inVersion2
 use Rattle.rules.specs.Cut.{afterCut}
 use Rattle.rules.specs.Rows.{actual, payment}
 use Rattle.rules.specs.Consumers.{credit}
-use Rattle.rules.specs.Refusals.{figureTests, sheetTests, applies, firstOf, refusal}
+use Rattle.rules.specs.Refusals.{figureTests, sheetTests, tests, applies, firstOf, refusal}
+use Rattle.rules.specs.Transfers.{transferTests}
+use Rattle.rules.specs.Averaging.{averageTests}
+use Rattle.rules.specs.Outcome2015.{tests2015}
 use Rattle.rules.specs.Samples.{producer, row, daysRow, consumer, month, every, k1, k4, Figure, figure, wrong}
-use Rattle.rules.specs.Open.{settlement, layout}
+use Rattle.rules.specs.Open.{settlement, layout, transfers, averaging, text2015}
 use mathlib.Core.Path.{_≡_, refl}
 
 -- A month of so many days with one producer, whose rows are not cut and whose coefficients are 1 but for k10, and with these rows and
@@ -52,6 +55,10 @@ shareCases =
     -- a half at the millionth: 0.3 × 0.999995 = 0.2999985, so 0.299999; for 14 days of 28 0.1499995, so 0.150000, and 0.2. Half of the
     -- volume first, then k10: 0.149999, and 0.1; not rounded to a millionth, 0.1 too
     ∷ figure (actual (oneRow 28 999995 1 14 3) 0) 2
+    -- 5166.6 × 0.00001 = 0.051666; for 30 days of 31 0.04999935.., so 0.049999, and 0.0; rounded upward 0.050000, and 0.1
+    ∷ figure (actual (oneRow 31 10 1 30 51666) 0) 0
+    -- 9999.9 for 25 days of 30 is 8333.25, so 8333.3; by a share of 0.833333 it would be 8333.246667, so 8333.2
+    ∷ figure (actual (oneRow 30 one 6 30 99999) 0) 83333
     -- half of 0.1 × 0.5 is 0.025, so 0.0; from 0.05 rounded to 0.1 the half would be 0.1
     ∷ figure (actual (oneRow 28 500000 1 14 1) 0) 0
     -- the volume after the cut is for no days
@@ -120,6 +127,10 @@ sheetOf2 = front 53 2 31 2 1 ++ rowBytes 5 (7 ∷ 8 ∷ []) ++ rowBytes 6 (9 ∷
 unfoldable pub sheetOf1 : List ℕ
 sheetOf1 = front 49 1 31 2 1 ++ rowBytes 5 [] ++ rowBytes 6 [] ++ replicate 15 11
 
+-- A sheet of version 2 with one row, from a day to day 28 of 28, and no producer.
+abbrev fromDay : ℕ → List ℕ
+fromDay first = front 26 2 28 1 0 ++ rowBytes 0 (first ∷ 28 ∷ [])
+
 unfoldable pub versionCases : List Figure
 versionCases =
     figure (sheetLength (layoutOf sheetOf2)) 53
@@ -140,7 +151,7 @@ versionCases =
     ∷ figure (monthOf sheetOf1 .consumer 0 .supplier) 11
     -- one row: 24 bytes in version 1 and 26 in version 2, each refused for its producer, 0 of 0, and not for its length
     ∷ figure (refusal (front 24 1 28 1 0 ++ rowBytes 0 []) 37) 10
-    ∷ figure (refusal (front 26 2 28 1 0 ++ rowBytes 0 (1 ∷ 28 ∷ [])) 37) 10
+    ∷ figure (refusal (fromDay 1) 37) 10
     -- exchanged, for its length; versions 0 and 3, whatever the length
     ∷ figure (refusal (front 26 1 28 1 0 ++ rowBytes 0 (1 ∷ 28 ∷ [])) 37) 6
     ∷ figure (refusal (front 24 2 28 1 0 ++ rowBytes 0 []) 37) 6
@@ -148,9 +159,17 @@ versionCases =
     ∷ figure (refusal (front 26 3 28 1 0 ++ rowBytes 0 (1 ∷ 28 ∷ [])) 37) 3
     ∷ figure (refusal (front 26 255 28 1 0 ++ rowBytes 0 (1 ∷ 28 ∷ [])) 37) 3
     -- 18 is among the numbers that entries without a result buffer try
-    ∷ figure (when (applies 18 (sheetTests (front 26 2 28 1 0 ++ rowBytes 0 (0 ∷ 28 ∷ [])))) 1) 1
-    ∷ figure (when (applies 18 (sheetTests (front 26 2 28 1 0 ++ rowBytes 0 (1 ∷ 28 ∷ [])))) 1) 0
+    ∷ figure (when (applies 18 (sheetTests (fromDay 0))) 1) 1
+    ∷ figure (when (applies 18 (sheetTests (fromDay 1))) 1) 0
     ∷ figure (when (applies 18 (sheetTests (front 24 1 28 1 0 ++ rowBytes 0 []))) 1) 0
+    -- behind the tests of 1 to 12 it is the next, also under the text of 2015; where 7 is left out, before 13 of a list of no bytes and
+    -- 16 of a record of none, which come first where the days are right
+    ∷ figure (firstOf (drop 12 (tests (fromDay 0) 37))) 18
+    ∷ figure (firstOf (drop 12 (tests2015 (fromDay 0) 4))) 18
+    ∷ figure (firstOf (drop 11 (transferTests (fromDay 0) []))) 18
+    ∷ figure (firstOf (drop 11 (averageTests (fromDay 0) []))) 18
+    ∷ figure (firstOf (drop 11 (transferTests (fromDay 1) []))) 13
+    ∷ figure (firstOf (drop 11 (averageTests (fromDay 1) []))) 16
     ∷ []
 
 -- All at once, by computation: no figure is wrong.
@@ -163,7 +182,7 @@ unfolding settlement layout monthWith dayCases
 day-cases = refl
 
 pub version-cases : wrong versionCases ≡ []
-unfolding settlement layout sheetOf2 sheetOf1 versionCases
+unfolding settlement layout transfers averaging text2015 sheetOf2 sheetOf1 versionCases
 version-cases = refl
 
 -- The sheet of version 1 above, written in version 2: 49 + 2 × 2 = 53 bytes, both rows from day 1 to day 31.
