@@ -4,6 +4,7 @@ use mathlib.Core.List.{List, [], _∷_, _++_}
 use lib.ListN.{replicate, drop}
 use Rattle.rules.specs.Range.{when}
 use Rattle.rules.specs.Units.{one}
+use Rattle.rules.specs.Fields.{bytesFrom}
 use Rattle.rules.specs.Month.{Row, Consumer, Month}
 use Rattle.rules.specs.Sheet.{layoutOf, monthOf, sheetLength, inVersion2}
 use Rattle.rules.specs.Cut.{afterCut}
@@ -189,3 +190,21 @@ version-cases = refl
 pub written-in-2 : inVersion2 sheetOf1 ≡ front 53 2 31 2 1 ++ rowBytes 5 (1 ∷ 31 ∷ []) ++ rowBytes 6 (1 ∷ 31 ∷ []) ++ replicate 15 11
 unfolding layout sheetOf1
 written-in-2 = refl
+
+-- A sheet with a producer of a month of no days, 42 bytes, one row and two consumers: 14 + 42 + 10 + 30 = 96 bytes, in version 2 98.
+abbrev withProducer : ℕ → ℕ → List ℕ → List ℕ
+withProducer length version days =
+    (0 ∷ 0 ∷ 0 ∷ length ∷ version ∷ 0 ∷ 1 ∷ 0 ∷ 0 ∷ 0 ∷ 0 ∷ 1 ∷ 1 ∷ 2 ∷ [])
+    ++ replicate 42 7
+    ++ rowBytes 5 days
+    ++ replicate 15 11
+    ++ replicate 15 12
+
+pub producer-in-2 : inVersion2 (withProducer 96 1 []) ≡ withProducer 98 2 (1 ∷ 0 ∷ [])
+unfolding layout
+producer-in-2 = refl
+
+-- A byte past the end counts as 0.
+pub past-the-end : bytesFrom (5 ∷ 6 ∷ []) 1 2 ≡ 6 ∷ 0 ∷ []
+unfolding layout
+past-the-end = refl
