@@ -28,7 +28,7 @@ static inline uint64_t raw8(const uint8_t *at)
 static inline uint32_t joined(const uint8_t *at, uint32_t days, int day)
 {
     uint64_t bits[2] = {0, 0};
-    for (; days != 0; days--, at += day)
+    for (const uint8_t *end = at + (size_t)day * days; at != end; at += day)
         for (int two = 0; two < 2; two++) {
             uint64_t of_day = 0;
 #pragma GCC unroll 18

@@ -30,8 +30,8 @@ extern "C" {
 #endif
 
 /*
- * The longest sheet, in bytes: version 2, 6 producers, 31 days, 32 rows, 32 consumers. In version 1, where a row has two
- * bytes less, it is 54,634.
+ * The longest sheet, in bytes: version 2, 6 producers, 31 days, 32 rows, 32 consumers. In version 1, where a row has
+ * two bytes less, it is 54,634.
  */
 #define CAPACITY_LARGEST_SHEET 54698
 

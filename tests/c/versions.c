@@ -1,6 +1,6 @@
 /*
- * Sheets of version 2 through the C entries: rows that cover part of the month, held to figures worked out by hand; rows
- * that cover all of it, held to version 1; the numbers that speak of version and days.
+ * Sheets of version 2 through the C entries: rows that cover part of the month, held to figures worked out by hand;
+ * rows that cover all of it, held to version 1; the numbers that speak of version and days.
  */
 #include <string.h>
 
@@ -63,8 +63,8 @@ static size_t fill_month(uint8_t *month, uint8_t version, const uint8_t days[ROW
 /* ---------------------------------------------------------------- rows inside the month */
 
 /*
- * Both consumers have a contract of 100.0, the peaks are 126.0 and 105.0. S is 100.0 + 10.0, by full volumes, so 5.0 are
- * cut from row 0; every coefficient is 1.
+ * Both consumers have a contract of 100.0, the peaks are 126.0 and 105.0. S is 100.0 + 10.0, by full volumes, so 5.0
+ * are cut from row 0; every coefficient is 1.
  *
  * Row 0: 95.0 x 19 / 30 = 60.166667, rounded 60.2. Row 1: 10.0 x 15 / 30 = 5.0, the credit of consumer 0.
  * Consumer 0: 126.0 - 5.0 = 121.0, 16.0 above 105.0, n 1.3: 100.0 + 1.3 x (16.0 - 5.0) = 114.3.
@@ -90,6 +90,7 @@ static const uint8_t settled_inside_2015[4 + 17 * 2] = {
 static uint8_t month[LONGEST], other[LONGEST], result[CAPACITY_LARGEST_RESULT];
 
 typedef int64_t settlement(const uint8_t *, size_t, uint8_t *, size_t);
+typedef int64_t change(uint8_t *, size_t, const uint8_t *, size_t);
 
 static void check_settled(const char *what, settlement *settle, const uint8_t *wanted, size_t count)
 {
@@ -100,13 +101,13 @@ static void check_settled(const char *what, settlement *settle, const uint8_t *w
     expect_untouched(what, result, count, sizeof result);
 }
 
-/* A list, or a record, applied to the month with the consumers of one sheet makes it that with those of members_after. */
-static void check_changed(const char *what, int64_t (*change)(uint8_t *, size_t, const uint8_t *, size_t),
-                          const uint8_t *before, const uint8_t *given, size_t given_length)
+/* A list, or a record, makes the month with the consumers of one sheet the month with those of members_after. */
+static void check_changed(const char *what, change *by, const uint8_t *before, const uint8_t *given,
+                          size_t given_length)
 {
     size_t length = fill_month(month, 2, inside, before);
     fill_month(other, 2, inside, members_after);
-    expect_answer(what, change(month, length, given, given_length), 0);
+    expect_answer(what, by(month, length, given, given_length), 0);
     expect_bytes(what, month, other, length);
 }
 
@@ -123,42 +124,41 @@ static void check_inside(void)
 
 /* ---------------------------------------------------------------- rows of the whole month */
 
-static void check_whole(const char *what, settlement *settle)
+/* Both versions of the month have the same result, of so many bytes. */
+static void check_whole(const char *what, settlement *settle, size_t count)
 {
     uint8_t result_2[CAPACITY_LARGEST_RESULT];
     size_t length = fill_month(month, 1, NULL, members_after), length_2 = fill_month(other, 2, whole, members_after);
-    memset(result, UNTOUCHED, sizeof result);
-    memset(result_2, UNTOUCHED, sizeof result_2);
-    int64_t answer = settle(month, length, result, sizeof result);
-    expect_answer(what, answer > 0, 1);
-    expect_answer(what, settle(other, length_2, result_2, sizeof result_2), answer);
-    expect_bytes(what, result_2, result, sizeof result);
+    expect_answer(what, settle(month, length, result, sizeof result), (int64_t)count);
+    expect_answer(what, settle(other, length_2, result_2, sizeof result_2), (int64_t)count);
+    expect_bytes(what, result_2, result, count);
 }
 
 /* ---------------------------------------------------------------- numbers */
 
-static int64_t settle(uint8_t *sheet_of, size_t length)
+/* The entries with the month of so many bytes. */
+static int64_t settle(size_t length)
 {
-    return capacity_settle(sheet_of, length, result, sizeof result);
+    return capacity_settle(month, length, result, sizeof result);
 }
 
-static int64_t settle_2015(uint8_t *sheet_of, size_t length)
+static int64_t settle_2015(size_t length)
 {
-    return capacity_settle_2015(sheet_of, length, result, sizeof result);
+    return capacity_settle_2015(month, length, result, sizeof result);
 }
 
 /* A list and a record of no bytes: the sheet's numbers come first. */
-static int64_t transfer(uint8_t *sheet_of, size_t length)
+static int64_t transfer(size_t length)
 {
-    return capacity_transfer(sheet_of, length, list, 0);
+    return capacity_transfer(month, length, list, 0);
 }
 
-static int64_t average(uint8_t *sheet_of, size_t length)
+static int64_t average(size_t length)
 {
-    return capacity_average(sheet_of, length, list, 0);
+    return capacity_average(month, length, list, 0);
 }
 
-static int64_t (*const entries[])(uint8_t *, size_t) = {settle, settle_2015, transfer, average};
+static int64_t (*const entries[])(size_t) = {settle, settle_2015, transfer, average};
 
 /* Every entry turns the month down with this number, and neither it nor the result buffer changes. */
 static void expect_refused(const char *what, size_t length, int64_t wanted)
@@ -166,7 +166,7 @@ static void expect_refused(const char *what, size_t length, int64_t wanted)
     memcpy(other, month, length);
     memset(result, UNTOUCHED, sizeof result);
     for (size_t i = 0; i < sizeof entries / sizeof entries[0]; i++) {
-        expect_answer(what, entries[i](month, length), wanted);
+        expect_answer(what, entries[i](length), wanted);
         expect_bytes(what, month, other, length);
         expect_untouched(what, result, 0, sizeof result);
     }
@@ -182,9 +182,10 @@ static size_t fill_last_row(uint8_t first, uint8_t last)
 static void check_days(void)
 {
     static const uint8_t accepted[][ROW_DAYS] = {{1, 1}, {DAYS, DAYS}, {1, DAYS}};
-    static const uint8_t refused[][ROW_DAYS] = {{0, DAYS}, {0, 0}, {15, 14}, {1, DAYS + 1}, {DAYS + 1, DAYS + 1}, {255, 255}};
+    static const uint8_t refused[][ROW_DAYS] = {{0, DAYS}, {0, 0}, {15, 14}, {1, DAYS + 1}, {DAYS + 1, DAYS + 1}};
     for (size_t i = 0; i < sizeof accepted / sizeof accepted[0]; i++)
-        expect_answer("days of the month", settle(month, fill_last_row(accepted[i][0], accepted[i][1])), 103);
+        expect_answer("days of the month", settle(fill_last_row(accepted[i][0], accepted[i][1])),
+                      sizeof settled_inside);
     for (size_t i = 0; i < sizeof refused / sizeof refused[0]; i++)
         expect_refused("days not of the month", fill_last_row(refused[i][0], refused[i][1]), -CAPACITY_BAD_DAYS);
 }
@@ -216,8 +217,8 @@ static void check_versions(void)
 int main(void)
 {
     check_inside();
-    check_whole("the month in both versions", capacity_settle);
-    check_whole("the month in both versions, text of 2015", capacity_settle_2015);
+    check_whole("the month in both versions", capacity_settle, sizeof settled_inside);
+    check_whole("the month in both versions, text of 2015", capacity_settle_2015, sizeof settled_inside_2015);
     check_days();
     check_order();
     check_versions();
