@@ -28,7 +28,7 @@ static inline uint64_t raw8(const uint8_t *at)
 static inline uint32_t joined(const uint8_t *at, uint32_t days, int day)
 {
     uint64_t bits[2] = {0, 0};
-    for (; days != 0; days--, at += day)
+    for (const uint8_t *end = at + (size_t)day * days; at != end; at += day)
         for (int two = 0; two < 2; two++) {
             uint64_t of_day = 0;
 #pragma GCC unroll 18
@@ -82,7 +82,7 @@ static inline bool high_producer(const uint8_t *at, uint32_t days)
 static inline void read_rows(const struct header *h, struct faults *f)
 {
     const uint8_t *at = h->row;
-    for (uint32_t j = 0; j < h->rows; j++, at += ROW) {
+    for (uint32_t j = 0; j < h->rows; j++, at += h->row_width) {
         uint32_t p = at[0], c = at[1];
         f->high |= load4(at + 2) > TOP_CAPACITY;
         f->reference |= (p >= h->producers) | ((c != SINGLE_BUYER) & (c >= h->consumers));
@@ -90,7 +90,7 @@ static inline void read_rows(const struct header *h, struct faults *f)
     }
 }
 
-/* Numbers 8 to 12; 0 where none applies. */
+/* Numbers 8 to 12 and 18; 0 where none applies. */
 static inline int figure_refusal(const struct header *h)
 {
     if (bad_share(h))
@@ -100,10 +100,10 @@ static inline int figure_refusal(const struct header *h)
     read_consumers(h, &f);
     for (uint32_t p = 0; p < h->producers && !f.high; p++)
         f.high = high_producer(h->producer + p * h->producer_width, h->days);
-    return f.high ? 9 : f.reference ? 10 : f.dear ? 11 : f.factor ? 12 : 0;
+    return f.high ? 9 : later_refusal(h, &f);
 }
 
-/* Numbers 1 to 12 save 7, of a sheet that is to be changed; 0 where none applies, and then the header is filled. */
+/* All numbers of a sheet that is to be changed, save 7; 0 where none applies, and then the header is filled. */
 static inline int sheet_refusal(struct header *h, const uint8_t *sheet, size_t length)
 {
     int refusal = read_header(h, sheet, length);

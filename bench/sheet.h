@@ -8,7 +8,7 @@
 #include <string.h>
 
 enum {
-    HEADER = 14, PRODUCER = 42, HOUR = 12, DAY = 24 * HOUR, ROW = 10, CONSUMER = 15,
+    HEADER = 14, PRODUCER = 42, HOUR = 12, DAY = 24 * HOUR, ROW = 10, DAY_ROW = 12, CONSUMER = 15,
     MOST_PRODUCERS = 6, MOST_ROWS = 32, MOST_CONSUMERS = 32,
     TOP_CAPACITY = 100000, TOP_PRICE = 200000000, ONE = 1000000,
     SINGLE_BUYER = 255, LOWEST_Z = 10, TOP_Z = 100
@@ -70,6 +70,7 @@ struct header {
     const uint8_t *row;
     const uint8_t *consumer;
     size_t producer_width;
+    size_t row_width;           /* ROW in version 1, DAY_ROW in version 2 */
 };
 
 /* Mondays to Fridays of a month that begins on a Monday. */
@@ -82,7 +83,8 @@ static inline int read_header(struct header *h, const uint8_t *sheet, size_t len
         return 1;
     if (load4(sheet) != length)
         return 2;
-    if (sheet[4] != 1)
+    uint32_t version = sheet[4];
+    if (version != 1 && version != 2)
         return 3;
     uint32_t days = sheet[5], weekday = sheet[6], holidays = load4(sheet + 7);
     if (days < 28 || days > 31 || weekday < 1 || weekday > 7 || holidays >> days != 0)
@@ -91,8 +93,9 @@ static inline int read_header(struct header *h, const uint8_t *sheet, size_t len
     if (producers > MOST_PRODUCERS || rows > MOST_ROWS || consumers > MOST_CONSUMERS)
         return 5;
     h->producer_width = PRODUCER + DAY * days;
+    h->row_width = version == 1 ? ROW : DAY_ROW;
     h->producer = sheet + HEADER;
-    size_t rows_at = HEADER + producers * h->producer_width, consumers_at = rows_at + ROW * rows;
+    size_t rows_at = HEADER + producers * h->producer_width, consumers_at = rows_at + h->row_width * rows;
     if (length != consumers_at + CONSUMER * consumers)
         return 6;
     h->row = sheet + rows_at;
@@ -112,6 +115,12 @@ static inline int read_header(struct header *h, const uint8_t *sheet, size_t len
 struct faults {
     bool high, reference, dear, factor;
 };
+
+/* Whether the rows state their days, the first at place 10 and the last at 11. */
+static inline bool states_days(const struct header *h)
+{
+    return h->row_width == DAY_ROW;
+}
 
 /* Number 8, over all producers. */
 static inline bool bad_share(const struct header *h)
@@ -136,6 +145,24 @@ static inline void read_consumers(const struct header *h, struct faults *f)
         f->factor |= (at[8] > h->days) | (at[9] > h->days) | (at[10] < LOWEST_Z) | (at[10] > TOP_Z);
         f->dear |= load4(at + 11) > TOP_PRICE;
     }
+}
+
+/* Number 18, over all rows. */
+static inline bool bad_days(const struct header *h)
+{
+    if (!states_days(h))
+        return false;
+    bool bad = false;
+    const uint8_t *at = h->row;
+    for (uint32_t j = 0; j < h->rows; j++, at += DAY_ROW)
+        bad |= (at[10] < 1) | (at[11] < at[10]) | (at[11] > h->days);
+    return bad;
+}
+
+/* The first of the numbers 10, 11, 12 and 18 that applies, where 9 does not; 0 where none does. */
+static inline int later_refusal(const struct header *h, const struct faults *f)
+{
+    return f->reference ? 10 : f->dear ? 11 : f->factor ? 12 : bad_days(h) ? 18 : 0;
 }
 
 #endif

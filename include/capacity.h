@@ -14,8 +14,10 @@
  * overlap.
  *
  * Sheet, result, list and record are laid out as docs/RULES.md says: every field unsigned, big-endian, no padding.
- * Consumers are counted from 0. What a call needs of stack and processor, also under interrupts, is in
- * docs/EMBEDDING.md.
+ * Consumers are counted from 0. Every entry takes sheets of both versions: rows of version 1 cover the month, those of
+ * version 2 state their first and last day. Results, lists and records are laid out alike beside either.
+ *
+ * What a call needs of stack and processor, also under interrupts, is in docs/EMBEDDING.md.
  */
 #ifndef CAPACITY_H
 #define CAPACITY_H
@@ -27,7 +29,10 @@
 extern "C" {
 #endif
 
-/* The longest sheet of every version, in bytes: version 2, 6 producers, 31 days, 32 rows, 32 consumers. */
+/*
+ * The longest sheet, in bytes: version 2, 6 producers, 31 days, 32 rows, 32 consumers. In version 1, where a row has
+ * two bytes less, it is 54,634.
+ */
 #define CAPACITY_LARGEST_SHEET 54698
 
 /* The longest result, in bytes: 32 rows, 32 consumers. A buffer of this size is long enough for every sheet. */
@@ -123,8 +128,8 @@ int64_t capacity_average(uint8_t *sheet, size_t sheet_length, const uint8_t *rec
 
 /*
  * Settles the consumers of one month's sheet under the text of 2015: an old act is opened again with it. The sheet is
- * the same, and the whole of it is tried; the text reads contract volumes, peaks and prices, and knows no credit, no
- * mining days and no z.
+ * the same, and the whole of it is tried; the text reads contract volumes, peaks and prices, and knows no rows, no
+ * credit, no mining days and no z.
  *
  * The answer, if it is above 0, is the count of bytes written to the front of the result buffer: 4 + 17 for each
  * consumer. Bytes past the result keep what they had.
@@ -143,7 +148,7 @@ int64_t capacity_settle_2015(const uint8_t *sheet, size_t sheet_length, uint8_t 
  */
 struct capacity_row {
     uint32_t after_cut; /* volume after the cut */
-    uint32_t actual;    /* actual volume */
+    uint32_t actual;    /* actual volume, for the days that the row covers */
     uint64_t payment;
 };
 

@@ -8,27 +8,7 @@
 
 #include "capacity.h"
 #include "example.h"
-
-/* What stands in the buffer before a call. */
-#define UNTOUCHED 0xA5
-
-static int wrong;
-
-static void expect_answer(const char *what, int64_t answer, int64_t wanted)
-{
-    if (answer != wanted) {
-        printf("C example: %s: answer %lld, not %lld\n", what, (long long)answer, (long long)wanted);
-        wrong = 1;
-    }
-}
-
-static void expect_byte(const char *what, const uint8_t *buffer, size_t at, uint8_t wanted)
-{
-    if (buffer[at] != wanted) {
-        printf("C example: %s: byte %zu is %d, not %d\n", what, at, buffer[at], wanted);
-        wrong = 1;
-    }
-}
+#include "expect.h"
 
 /* An entry that settles, with its result of the example sheet. */
 struct settlement {
@@ -54,8 +34,9 @@ static void check_settled(const struct settlement *by, size_t sheet_length, size
     snprintf(what, sizeof what, "%s, %zu bytes of it, room of %zu bytes", by->name, sheet_length, room);
     memset(buffer, UNTOUCHED, sizeof buffer);
     expect_answer(what, by->settle(sheet + sizeof sheet - sheet_length, sheet_length, buffer, room), wanted);
-    for (size_t i = 0; i < sizeof buffer; i++)
-        expect_byte(what, buffer, i, (int64_t)i < wanted ? by->expected[i] : UNTOUCHED);
+    size_t written = wanted < 0 ? 0 : by->length;
+    expect_bytes(what, buffer, by->expected, written);
+    expect_untouched(what, buffer, written, sizeof buffer);
 }
 
 /* In more room than is needed, in as much, in one byte less and in none; and a sheet of no bytes. */
@@ -76,7 +57,7 @@ static void check_line_2015(void)
 {
     struct capacity_line_2015 line = capacity_read_2015(expected_2015, 0);
     if (line.factor != 15 || line.volume != 1500 || line.charge != 15000000) {
-        printf("C example: text of 2015: factor %d, volume %llu, charge %llu\n", line.factor,
+        printf("text of 2015: factor %d, volume %llu, charge %llu\n", line.factor,
                (unsigned long long)line.volume, (unsigned long long)line.charge);
         wrong = 1;
     }
@@ -101,17 +82,16 @@ static int64_t transfer(size_t sheet_length, const uint8_t *transfers, size_t li
 
 static void expect_lent(const char *what, const uint8_t *wanted)
 {
-    expect_byte(what, lent, 0, UNTOUCHED);
-    for (size_t i = 0; i < sizeof members; i++)
-        expect_byte(what, lent, 1 + i, wanted[i]);
-    expect_byte(what, lent, 1 + sizeof members, UNTOUCHED);
+    expect_untouched(what, lent, 0, 1);
+    expect_bytes(what, lent + 1, wanted, sizeof members);
+    expect_untouched(what, lent, 1 + sizeof members, sizeof lent);
 }
 
 static void expect_consumer(const uint8_t *result, size_t consumer, uint64_t volume, uint64_t charge)
 {
     struct capacity_consumer_line line = capacity_read_consumer(result, 0, consumer);
     if (line.volume != volume || line.charge != charge) {
-        printf("C example: consumer %zu of the changed sheet: volume %llu, charge %llu\n", consumer,
+        printf("consumer %zu of the changed sheet: volume %llu, charge %llu\n", consumer,
                (unsigned long long)line.volume, (unsigned long long)line.charge);
         wrong = 1;
     }

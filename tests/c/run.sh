@@ -36,20 +36,25 @@ for file in crates/vectors/data/*; do
     esac
 done
 
-# The header alone, and the example.
+# The header alone; the example, and sheets of both versions.
 for std in c99 c11 c17; do
     echo '#include "capacity.h"' | strict "$CC" -std=$std -fsyntax-only -x c - || fail "the header is no $std"
 done
-strict "$CC" -std=c99 -o "$out/example" tests/c/example.c "$archive" || fail "the example does not build"
-"$out/example" || fail "the example fails"
+for test in example versions; do
+    strict "$CC" -std=c99 -o "$out/$test" "tests/c/$test.c" "$archive" || fail "$test.c does not build"
+    "$out/$test" || fail "$test.c fails"
+done
 
 # The same from C++.
 if command -v "$CXX" >/dev/null 2>&1; then
-    strict "$CXX" -std=c++11 -x c++ -o "$out/example_cpp" tests/c/example.c -x none "$archive" || fail "the example does not build as C++"
-    "$out/example_cpp" >/dev/null || fail "the example fails as C++"
-    echo "C++ example: ok"
+    for test in example versions; do
+        strict "$CXX" -std=c++11 -x c++ -o "$out/${test}_cpp" "tests/c/$test.c" -x none "$archive" ||
+            fail "$test.c does not build as C++"
+        "$out/${test}_cpp" >/dev/null || fail "$test.c fails as C++"
+    done
+    echo "C++ example and versions: ok"
 else
-    echo "C++ example: left out, there is no $CXX"
+    echo "C++ example and versions: left out, there is no $CXX"
 fi
 
 # The header's readers of a result.
@@ -102,7 +107,7 @@ for locals in $(sed -n 's/.*sub  *\$\(0x[0-9a-f]*\),%rsp$/\1/p' "$listing"); do
     frames=$((frames + locals))
 done
 
-# The stack that an entry uses on files of its stored cases.
+# The stack that an entry uses on files of its stored cases; the longest of their sheets.
 measure() {
     entry=$1
     shift
@@ -110,10 +115,13 @@ measure() {
     set -- $measured
     [ "$1" -gt 0 ] || fail "there is no stored case of capacity_$entry"
     [ "$3" -le "$frames" ] || fail "$3 bytes of stack used by capacity_$entry, $frames seen in the code"
-    echo "stack: capacity_$entry, $1 stored cases, sheets to $2 bytes: at most $3 bytes"
+    longest=$2
+    echo "stack: capacity_$entry, $1 stored cases, sheets to $longest bytes: at most $3 bytes"
 }
 
 measure settle $sheets
+largest=$(sed -n 's/^#define CAPACITY_LARGEST_SHEET //p' include/capacity.h)
+[ "$longest" -eq "$largest" ] || fail "the longest stored sheet has $longest bytes, the largest there is $largest"
 measure settle_2015 $sheets_2015
 measure transfer "$lists"
 measure average "$records"

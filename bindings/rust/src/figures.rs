@@ -5,7 +5,7 @@
 pub struct RowLine {
     /// Volume after the cut.
     pub after_cut: u32,
-    /// Actual volume.
+    /// Actual volume, for the days that the row covers.
     pub actual: u32,
     /// Payment.
     pub payment: u64,

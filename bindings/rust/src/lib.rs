@@ -13,8 +13,8 @@ pub use figures::{ConsumerLine, Figures, Figures2015, Line2015, RowLine, Totals}
 pub use lists::{list_length, write_list, Transfer, LIST_ENTRY, LIST_FRONT};
 pub use records::{record_length, write_record, Hour, LARGEST_RECORD, RECORD_FRONT, RECORD_HOUR};
 
-/// The longest sheet, in bytes: 6 producers, 31 days, 32 rows, 32 consumers.
-pub const LARGEST_SHEET: usize = 14 + 6 * (42 + 288 * 31) + 10 * 32 + 15 * 32;
+/// The longest sheet, in bytes: version 2, 6 producers, 31 days, 32 rows, 32 consumers.
+pub const LARGEST_SHEET: usize = 14 + 6 * (42 + 288 * 31) + 12 * 32 + 15 * 32;
 
 /// The longest result, in bytes: 32 rows, 32 consumers. A buffer of this size is long enough for every sheet.
 pub const LARGEST_RESULT: usize = 21 + 16 * 32 + 25 * 32;
@@ -28,13 +28,13 @@ pub const LARGEST_RESULT_2015: usize = 4 + 17 * 32;
 pub struct Refusal(u8);
 
 /// The words for each number, from 1 on.
-const WORDS: [&str; 17] = [
+const WORDS: [&str; 18] = [
     "the sheet is shorter than its header",
     "the length field is not the sheet's length",
     "the version is unknown",
     "the month is wrong: its days, first weekday or holidays",
     "there are too many producers, rows or consumers",
-    "the length does not go with the counts",
+    "the length does not go with version, month and counts",
     "the result buffer is too short",
     "a count of hours or a given coefficient is too large",
     "a capacity figure is too large",
@@ -46,6 +46,7 @@ const WORDS: [&str; 17] = [
     "an entry of the list asks more than the giver has, or than the taker may have",
     "the record is wrong: its length, for its bytes or for the month, or its consumer",
     "a power in the record is too large",
+    "a row's days are not days of the month, or end before they begin",
 ];
 
 impl Refusal {
@@ -59,7 +60,7 @@ impl Refusal {
     pub const BAD_MONTH: Refusal = Refusal(4);
     /// Producers, rows or consumers.
     pub const TOO_MANY: Refusal = Refusal(5);
-    /// The length does not go with month and counts.
+    /// The length does not go with version, month and counts.
     pub const LENGTH_OFF: Refusal = Refusal(6);
     /// The result buffer is shorter than the result.
     pub const SHORT_BUFFER: Refusal = Refusal(7);
@@ -83,6 +84,8 @@ impl Refusal {
     pub const BAD_RECORD: Refusal = Refusal(16);
     /// A power in the record, imported power too.
     pub const HIGH_POWER: Refusal = Refusal(17);
+    /// A row's first or last day.
+    pub const BAD_DAYS: Refusal = Refusal(18);
 
     /// The number of the rule, as docs/RULES.md counts them.
     pub const fn number(self) -> u8 {
@@ -111,7 +114,7 @@ extern "C" {
     fn capacity_settle_2015(sheet: *const u8, sheet_length: usize, result: *mut u8, result_length: usize) -> i64;
 }
 
-/// A refusal from an answer below 0. By its contract that is minus a number from 1 to 17, which fits.
+/// A refusal from an answer below 0. By its contract that is minus a number from 1 to 18, which fits.
 fn refusal(answer: i64) -> Refusal {
     Refusal(answer.unsigned_abs() as u8)
 }
@@ -137,8 +140,10 @@ fn changed(answer: i64) -> Result<(), Refusal> {
 /// Settles one month's sheet into a result buffer.
 ///
 /// The answer is the count of bytes written to the buffer's front: 21 + 16 for each row + 25 for each consumer. Bytes
-/// past them keep what they had. A sheet may hold any bytes and have any length, and so may the buffer; neither has to
-/// be aligned. Nothing is allocated and no state is kept, so any number of threads may call at once.
+/// past them keep what they had. The sheet may be of version 1, whose rows cover the month, or of version 2, whose rows
+/// state their first and last day; so it may for every other entry. It may hold any bytes and have any length, and so
+/// may the buffer; neither has to be aligned. Nothing is allocated and no state is kept, so any number of threads may
+/// call at once.
 ///
 /// # Errors
 ///

@@ -40,7 +40,7 @@ fn lengths_are_those_of_the_c_header() {
     assert!(header.contains(&format!("#define CAPACITY_RECORD_FRONT {RECORD_FRONT}\n")));
     assert!(header.contains(&format!("#define CAPACITY_RECORD_HOUR {RECORD_HOUR}\n")));
     assert!(header.contains(&format!("#define CAPACITY_LARGEST_RECORD {LARGEST_RECORD}\n")));
-    assert_eq!((LARGEST_SHEET, LARGEST_RESULT, LARGEST_RECORD), (54_634, 1_333, 5_961));
+    assert_eq!((LARGEST_SHEET, LARGEST_RESULT, LARGEST_RECORD), (54_698, 1_333, 5_961));
     assert_eq!(LARGEST_RESULT_2015, 548);
 }
 
@@ -65,6 +65,7 @@ fn refusals_are_those_of_the_c_header() {
         ("OVERDRAWN", Refusal::OVERDRAWN),
         ("BAD_RECORD", Refusal::BAD_RECORD),
         ("HIGH_POWER", Refusal::HIGH_POWER),
+        ("BAD_DAYS", Refusal::BAD_DAYS),
     ];
     let numbers = names.iter().filter(|(name, refusal)| {
         let line = format!("    CAPACITY_{name} = {}", refusal.number());

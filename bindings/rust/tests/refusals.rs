@@ -1,4 +1,4 @@
-//! A sheet for each number from 1 to 12. The buffer keeps every byte.
+//! A sheet for each number that the settlement answers; those of days are in versions.rs. The buffer keeps every byte.
 mod common;
 
 use capacity::{settle, Refusal, LARGEST_RESULT};
@@ -33,8 +33,10 @@ fn two_another_length() {
 
 #[test]
 fn three_another_version() {
-    assert_eq!(number(&changed(&EXAMPLE, 4, &[0])), 3);
-    assert_eq!(number(&changed(&EXAMPLE, 4, &[255])), 3);
+    for version in [0, 3, 255] {
+        assert_eq!(number(&changed(&EXAMPLE, 4, &[version])), 3);
+    }
+    assert_eq!(count(&changed(&EXAMPLE, 4, &[2])), EXAMPLE_RESULT, "without rows both versions have one length");
 }
 
 #[test]
@@ -113,4 +115,6 @@ fn a_refusal_prints_its_number_and_words() {
     assert_eq!(refusal.to_string(), "refusal 7: the result buffer is too short");
     assert_eq!(Refusal::FILED_LATE.to_string(), "refusal 14: an entry of the list was filed after day 20");
     assert_eq!(Refusal::HIGH_POWER.to_string(), "refusal 17: a power in the record is too large");
+    let days = "refusal 18: a row's days are not days of the month, or end before they begin";
+    assert_eq!(Refusal::BAD_DAYS.to_string(), days);
 }

@@ -17,8 +17,8 @@ struct Case {
     told: Result<Vec<u8>, u8>,
 }
 
-/// The files of lists and of records, which have a form of their own: the entry that takes them, how many there are.
-const CHANGES: [(&str, Change, usize); 2] = [("transfers", transfer, 21), ("averages", average, 25)];
+/// The files of lists and of records, which have a form of their own, with the entry that takes them.
+const CHANGES: [(&str, Change); 2] = [("transfers", transfer), ("averages", average)];
 
 struct ChangeCase {
     sheet: Vec<u8>,
@@ -130,7 +130,7 @@ fn settle_all(stored: &[(String, Vec<Case>)]) {
 }
 
 fn change_all(changes: &[Vec<ChangeCase>]) {
-    for ((kind, entry, _), cases) in CHANGES.iter().zip(changes) {
+    for ((kind, entry), cases) in CHANGES.iter().zip(changes) {
         for (at, case) in cases.iter().enumerate() {
             assert!(agrees_changed(*entry, case, 0xA5) && agrees_changed(*entry, case, 0x5A), "{kind}, case {at}");
         }
@@ -144,7 +144,7 @@ fn stored() -> Vec<(String, Vec<Case>)> {
 
 /// The sheets with a list and those with a record, a file each.
 fn stored_changes() -> Vec<Vec<ChangeCase>> {
-    CHANGES.iter().map(|(kind, ..)| read_all(kind, next_change)).collect()
+    CHANGES.iter().map(|(kind, _)| read_all(kind, next_change)).collect()
 }
 
 #[test]
@@ -152,9 +152,7 @@ fn agree_byte_for_byte() {
     let (stored, changes) = (stored(), stored_changes());
     let counts: Vec<_> = stored.iter().map(|(kind, cases)| (kind.clone(), cases.len())).collect();
     assert_eq!(counts, kinds());
-    for ((kind, _, count), cases) in CHANGES.iter().zip(&changes) {
-        assert_eq!(cases.len(), *count, "{kind}");
-    }
+    assert!(changes.iter().all(|cases| !cases.is_empty()));
     assert_eq!(fs::read_dir(vectors().join("data")).unwrap().count(), counts.len() + changes.len());
     settle_all(&stored);
     change_all(&changes);
