@@ -12,10 +12,10 @@ pub struct Header {
     pub consumers: u8,
 }
 
-// A sheet's version and its header: together they say where its records stand.
+// A sheet's header and its version: together they say where its records stand. In this order the compiler copies the header as it stands.
 pub struct Layout {
-    pub version: u8,
     pub header: Header,
+    pub version: u8,
 }
 
 // A producer's stated figures: attested capacity, deductible capacity and greatest own needs, in tenths of a megawatt; hours without an
