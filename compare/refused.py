@@ -137,7 +137,7 @@ def days_other(rng, sheet, pick):
     sheet.month = sheet.month._replace(days=other, holidays=sheet.month.holidays & (1 << 28) - 1)
 
 
-# ------------------------------------------------------------------ 8 to 12: figures
+# ------------------------------------------------------------------ 8 to 12: other figures
 
 
 def missing_hours(place):

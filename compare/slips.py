@@ -193,11 +193,11 @@ SLIPS = [
       "test 11 (oneOf (someRow m (λ r. tooDear (r .price)) ∷ someConsumer m (λ c. tooDear (c .price)) ∷ []))",
       "test 11 (someRow m (λ r. tooDear (r .price))) ∷ test 9 (someConsumer m highConsumer) ∷ test 11 (someConsumer "
       "m (λ c. tooDear (c .price)))")),
-    ("numbers 8 to 12 not tried",
+    ("numbers of the figures not tried",
      ("Refusals",
       "refusal s room = firstOf (tests s room)",
       "refusal s room = firstOf (formTests s ++ roomTests (resultLength (headerOf s)) room)")),
-    ("no hours of a sheet that 7 to 12 refuse", ("Outcome", "firstOf (formTests s)", "refusal s 2000")),
+    ("no hours of a sheet that a number from 7 on refuses", ("Outcome", "firstOf (formTests s)", "refusal s 2000")),
 
     # transfers
     ("entries applied in reverse",

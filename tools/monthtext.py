@@ -142,9 +142,11 @@ def buyer_of(value, field):
 def row_day_of(value, field, known):
     """A row's first or last day: a date of the month, or a number, which the field may hold though no month does."""
     date = date_of(value)
-    if date is None:
-        return figure_of(value, field)
-    return day_of_date(date, known.dates) if known else date.day
+    if date is not None:
+        return day_of_date(date, known.dates) if known else date.day
+    if not is_whole(value) and not (isinstance(value, str) and NUMBER.fullmatch(value.strip().removeprefix("-"))):
+        raise Trouble(f"{shown(value)} is neither a date nor the number of a day")
+    return figure_of(value, field)
 
 
 # ------------------------------------------------------------------ from text to a sheet

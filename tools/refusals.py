@@ -45,7 +45,7 @@ RULES = {
     16: "the record's length is not what its bytes and the days of the month ask for, or it names no consumer of the "
         "sheet",
     17: f"a power in the record is above {CAPACITY.text(TOP_CAPACITY)} MW",
-    18: "a row's first day is 0, or its last day is before the first or after the month's end",
+    18: "a row begins before day 1, ends before it begins, or ends after the month does",
 }
 
 

@@ -36,7 +36,7 @@ refusal 11: a price is above 2000000.00 tenge
 refusal 12: mining days are above the days of the month, or z is outside 1.0 to 10.0
   consumer 0, mining days of the supplier, 29 days (at most 28)
   consumer 0, z, 0.9 (from 1.0 to 10.0)
-refusal 18: a row's first day is 0, or its last day is before the first or after the month's end
+refusal 18: a row begins before day 1, ends before it begins, or ends after the month does
   row 0, first day, 0 (from 1 to 28)
   row 0, last day, 29 (from 1 to 28)
 """

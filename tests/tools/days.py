@@ -19,7 +19,7 @@ INSIDE = EXAMPLES / "inside-month.sheet"
 LISTING = INSIDE.with_suffix(".listing").read_text()
 INSIDE_DAYS = [(10, 30), (1, 15), (20, 20), (1, 30), (1, 30)]
 REFUSED = EXAMPLES / "refused-18.sheet"
-RULE = "a row's first day is 0, or its last day is before the first or after the month's end"
+RULE = "a row begins before day 1, ends before it begins, or ends after the month does"
 FIELD = "row 1, last day, 31 (from the first day, 10, to 30)"
 # A list and a record that change the month.
 CONTENTS = {LISTS: list_bytes([Transfer(3, 0, 1, 155)]),
@@ -59,12 +59,12 @@ BAD = [
     (with_days(-1, 28), "row 0: first_day: -1 is negative"),
     (with_days(10, 256), "row 0: last_day: 256 does not fit its field, which holds at most 255"),
     (with_days(10, "28.5"), 'row 0: last_day: "28.5" has decimals, and a whole number is asked for'),
-    (with_days('"tenth"', 28), 'row 0: first_day: "tenth" is not a number written plainly, as 100'),
-    (with_days("true", 28), "row 0: first_day: True is no number"),
+    (with_days('"tenth"', 28), 'row 0: first_day: "tenth" is neither a date nor the number of a day'),
+    (with_days("true", 28), "row 0: first_day: True is neither a date nor the number of a day"),
     (with_days("2021-01-31", 28), "row 0: first_day: 2021-01-31 is outside the month"),
     (with_days(10, "2022-02-28"), "row 0: last_day: 2022-02-28 is outside the month"),
     (with_days(10, '"2021-02-29"'), 'row 0: last_day: "2021-02-29" is no date'),
-    (with_days("2021-02-10T00:00:00", 28), "row 0: first_day: 2021-02-10 00:00:00 is no number"),
+    (with_days("2021-02-10T00:00:00", 28), "row 0: first_day: 2021-02-10 00:00:00 is neither a date nor the number of a day"),
     (with_days(10, "2021-02-28", BY_DAYS), "row 0: last_day: 2021-02-28 is a date, which needs year and month; with "
      "days and weekday give the day's number"),
     (changed(GOOD, [("[[consumer]]", "[[consumer]]\nfirst_day = 1")]), 'consumer 0: the key "first_day" is unknown'),

@@ -1,4 +1,4 @@
-// Where the records of a sheet stand, and how long the sheet and its result are. No other crate knows how wide a record of the sheet is.
+// Where the records of a sheet stand, and how long the sheet and its result are. No other crate asks for the version.
 ghost use mathlib.Core.Path.{_≡_};
 ghost use Prim.Native.Nat.{_≤_};
 ghost use Rattle.rules.specs.Sheet.{hoursWidth, producerAt, hoursAt, hourSeries, statesDays, rowWidth, rowAt, consumerAt, contractAt, peakAt, sheetLength};

@@ -56,9 +56,11 @@ pub fn header_refusal(layout: Layout, bytes: usize) -> u8
 pub fn front_refusal(s: &[u8]) -> u8
     ensures { λ r. ⌜ r ≡ firstOf (frontTests (now (s .entry))) ⌝ }
 {
+    if s.len() < 14 {
+        return 1;
+    }
     let three = first(3, bad_version(s), 0);
-    let two = first(2, word(s, 0) as usize != s.len(), three);
-    first(1, s.len() < 14, two)
+    first(2, word(s, 0) as usize != s.len(), three)
 }
 
 // The first of the numbers 1 to 6 that applies, 0 where none does.

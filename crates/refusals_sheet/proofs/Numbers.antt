@@ -30,7 +30,7 @@ module _ (layout : Layout) (bytes : ℕ) where
 pub form-whole : (s : List ℕ) → firstOf (formTests s) ≡ 0 → sheetLength (layoutOf s) ≤ length s
 form-whole s none = let l = form-limits s none in le-of-eq (sym (l .length-right) ∙ l .length-told)
 
--- The form's tests, then 7 for a result of so many bytes, then 8 to 12: the first number comes from the first of these that has one.
+-- The form's tests, then 7 for a result of so many bytes, then the figures': the first number comes from the first of these that has one.
 module _ (form : List Test) (told : T (numbered form)) (needed room : ℕ) (m : Month) {all : ℕ}
     (is : all ≡ firstOf (form ++ (roomTests needed room ++ figureTests m))) where
   pub form-stands : (firstOf form ≡ 0 → ⊥) → firstOf form ≡ all
@@ -58,7 +58,7 @@ module _ (layout : Layout) (s : List ℕ) (room : ℕ) where
   unfolding monthNumber
   month-is = refl
 
-  -- Where none of 4 to 12 does.
+  -- Where none from 4 on does.
   pub month-kept : monthNumber layout s room ≡ 0
       → (MonthLimits (monthUnder layout s) × (sheetLength layout ≤ length s)) × (resultLength (layout .header) ≤ room)
   unfolding monthNumber

@@ -1,4 +1,4 @@
--- What stands in the buffer after numbers 4 to 12 were tried under a layout.
+-- What stands in the buffer after the numbers from 4 on were tried under a layout.
 use Prim.Native.Nat.{ℕ}
 use mathlib.Core.Bool.{cond}
 use mathlib.Core.List.{List}

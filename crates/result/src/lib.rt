@@ -1,4 +1,4 @@
-// The figures of one month: the numbers from 4 on under a header, and the result of a month to which none applies.
+// The figures of one month: the numbers from 4 on under a layout, and the result of a month to which none applies.
 ghost use mathlib.Core.Path.{_≡_};
 ghost use lib.ListN.{length};
 ghost use Rattle.refusals_sheet.specs.Numbers.{monthNumber};
@@ -10,7 +10,7 @@ mod consumers;
 mod result;
 mod rows;
 
-// The first of the numbers from 4 on that applies to the month that a header puts into a sheet. Where none does the answer is 0 and the
+// The first of the numbers from 4 on that applies to the month that a layout puts into a sheet. Where none does the answer is 0 and the
 // result stands at the buffer's front.
 pub fn settle_month(s: &[u8], layout: Layout, out: &mut [u8]) -> u8
     ensures { λ r. ⌜ r ≡ monthNumber layout (now (s .entry)) (length (now (out .entry))) ⌝ }

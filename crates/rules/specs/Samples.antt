@@ -44,8 +44,8 @@ abbrev pub consumer : ℕ → ℕ → ℕ → ℕ → ℕ → ℕ → Consumer
 consumer contract peak supplier grid z price =
     record { contract = contract; peak = peak; supplier = supplier; grid = grid; z = z; price = price }
 
--- Days, weekday of day 1, holidays; the producers, rows (each told the month's days) and consumers. Past the last of each stands one that no sum may
--- count and no sheet may have: attested 10,000.1, volume 10,000.1, z 0.9.
+-- Days, weekday of day 1, holidays; the producers, rows (each told the month's days) and consumers. Past the last of each stands one that
+-- no sum may count and no sheet may have: attested 10,000.1, volume 10,000.1, z 0.9.
 unfoldable pub month : ℕ → ℕ → ℕ → List Producer → List (ℕ → Row) → List Consumer → Month
 month days weekday holidays ps rs cs =
     record {

@@ -89,7 +89,7 @@ abbrev pub peakAt : Layout → ℕ → ℕ
 peakAt l c = consumerAt l c + 4
 
 -- The length that version, month and counts ask for: the place past the last consumer.
--- (sheet-length, in laws/Sheet: 14 + P × (42 + 288 × days) + 10 × R + 15 × C, from version 2 on 12 × R.)
+-- (sheet-length, in laws/Sheet: 14 + P × (42 + 288 × days) + rowWidth × R + 15 × C; row-width-1 and row-width-2 there.)
 unfoldable pub sheetLength : Layout → ℕ
 sheetLength l = consumerAt l (l .header .consumers)
 

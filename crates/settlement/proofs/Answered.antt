@@ -21,7 +21,7 @@ module _ (s : List ℕ) (room : ℕ) where
   unfolding refusal tests testsFor formTests
   later = simp append-assoc
 
-  -- The first of 1 to 3 is the sheet's number; where there is none, the first of 4 to 12 is.
+  -- The first of 1 to 3 is the sheet's number; where there is none, the first of those from 4 on is.
   pub front-stands : (firstOf (frontTests s) ≡ 0 → ⊥) → firstOf (frontTests s) ≡ refusal s room
   front-stands n = first-stands (frontTests s) _ (front-numbered s) n ∙ sym later
 
