@@ -14,7 +14,7 @@ def unlikely(sheet, names):
         for words in of_producer(producer, any(row.producer == number for row in sheet.rows)):
             yield f"{names.label('producer', number)}: {words}"
     for number, row in enumerate(sheet.rows):
-        for words in of_noughts(volume=row.volume, price=row.price):
+        for words in of_row(row, sheet.rows[:number], sheet.month):
             yield f"row {number}: {words}"
     buyers = {row.consumer for row in sheet.rows} - {SINGLE_BUYER}
     for number, consumer in enumerate(sheet.consumers):
@@ -40,6 +40,19 @@ def of_producer(producer, has_rows):
         first = above[0]
         yield (f"working power is above possible power in {count_of(above, 'hour')}, the first {hour_words(first)}: "
                f"{CAPACITY.text(producer.working[first])} MW and {CAPACITY.text(producer.possible[first])} MW")
+
+
+def of_row(row, before, month):
+    yield from of_noughts(volume=row.volume, price=row.price)
+    for number, other in enumerate(before):
+        if (other.producer, other.consumer) == (row.producer, row.consumer) and on_other_days(row, other, month):
+            yield f"it has the producer and the buyer of row {number}, on other days; both count whole in the cut, T and S"
+
+
+def on_other_days(row, other, month):
+    first, last = row.days(month)
+    other_first, other_last = other.days(month)
+    return last < other_first or other_last < first
 
 
 def of_consumer(consumer, named):

@@ -6,7 +6,7 @@ import monthtext
 import records
 import refusals
 from checks import EXAMPLES, SHEET, check, files_in, run, sheet, turned_down, words_of
-from texts import CONSTANT, CSV, GOOD, changed
+from texts import CONSTANT, CSV, GOOD, ROW, changed
 
 ACCEPTED = "accepted\n"
 WRONG = [
@@ -53,13 +53,16 @@ UNLIKELY = [
       ("[[producer]]", '[[producer]]\nname = "One"')], "2 producers have the name One"),
     ([('volume = "100.0"\nprice = "1000.05"', 'volume = "0"\nprice = "1000.05"')], "row 0: volume is 0"),
     ([('price = "1000.05"', 'price = "0"')], "row 0: price is 0"),
+    ([(ROW, f"{ROW}first_day = 1\nlast_day = 15\n{ROW}first_day = 16\nlast_day = 28\n")],
+     "row 1: it has the producer and the buyer of row 0, on other days; both count whole in the cut, T and S"),
     ([('price = "1000.00"', 'price = "0"')], "consumer 0: price is 0"),
     ([('peak = "126.0"', 'peak = "150.1"')],
      "consumer 0: no row names it, and its peak is far above its contract volume: 150.1 MW and 100.0 MW"),
     ([("holidays = []", f"holidays = {list(range(1, 29))}")],
      "the month has no control hour, since every day from Monday to Friday is a holiday"),
 ]
-LIKELY = [('peak = "126.0"', 'peak = "150.0"'), ("[[consumer]]", '[[consumer]]\nname = "One"'),
+LIKELY = [(ROW, f"{ROW}first_day = 1\nlast_day = 15\n{ROW}first_day = 15\nlast_day = 28\n"),
+          ('peak = "126.0"', 'peak = "150.0"'), ("[[consumer]]", '[[consumer]]\nname = "One"'),
           ("[[producer]]", '[[producer]]\nname = "One"'), ('working = "99.0"', 'working = "110.5"')]
 
 
