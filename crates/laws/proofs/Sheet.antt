@@ -9,7 +9,7 @@ use borrow.Author.Tests.{le-ltb, lt-ltb}
 use lib.ListN.{length, getD}
 use Rattle.rules.specs.declared.Layout.{Layout}
 use Rattle.rules.specs.Fields.{bigEndian, bytesFrom}
-use Rattle.rules.specs.Sheet.{statedWidth, hoursWidth, statesDays, rowWidth, consumerWidth, producerAt, hoursAt, rowAt, consumerAt, sheetLength, statedOf, dayAt, rowOf, consumerOf}
+use Rattle.rules.specs.Sheet.{headerOf, statedWidth, hoursWidth, statesDays, rowWidth, consumerWidth, producerAt, hoursAt, rowAt, consumerAt, sheetLength, statedOf, dayAt, rowOf, consumerOf}
 use Rattle.laws.proofs.Arrays.{length-listed, getD-listed}
 use Rattle.laws.proofs.Fields.{same-bytes, Holds}
 
@@ -82,7 +82,19 @@ pub held-from : (n : ℕ) (t : List ℕ) (to : ℕ) (s : List ℕ) (from : ℕ) 
 unfolding bytesFrom
 held-from n t to s from h = same-fields n t to s from (λ i l. h .byte i (rw length-listed l) ∙ getD-listed 0 _ n i l)
 
--- So is every record.
+-- So is the header, whose month and counts follow the version,
+pub header-same : (t s : List ℕ) → SameFields 9 t 5 s 5 → headerOf t ≡ headerOf s
+header-same t s field =
+    rw (
+      field 1 0 (omega arith),
+      field 1 1 (omega arith),
+      field 4 2 (omega arith),
+      field 1 6 (omega arith),
+      field 1 7 (omega arith),
+      field 1 8 (omega arith),
+    )
+
+-- and every record.
 module _ (t : List ℕ) (to : ℕ) (s : List ℕ) (from : ℕ) where
   pub front-same : {n : ℕ} (w : ℕ) → w ≤ n → SameFields n t to s from → bigEndian w t to ≡ bigEndian w s from
   front-same w b field = rw (add-zero to, add-zero from) at (field w 0 (omega arith))

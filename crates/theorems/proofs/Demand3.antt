@@ -14,6 +14,7 @@ use Rattle.rules.specs.Result.{readRow, readConsumer, readTotals, rowFigures, c
 use Rattle.rules.specs.Refusals.{refusal}
 use Rattle.rules.specs.Outcome.{Accepted, bufferAfter}
 use Rattle.laws.proofs.Fields.{same-bytes, Holds, holds-front}
+use Rattle.laws.proofs.Sheet.{header-same}
 use Rattle.laws.proofs.Refusals.{limits}
 use Rattle.laws.proofs.Answers.{is-changed}
 use Rattle.laws.proofs.Cut.{cut-le-volume}
@@ -30,15 +31,7 @@ front-same n w at s t e l = same-bytes w s t at at (λ i q. byte i (omega arith)
     byte i q = sym (getD-take n s (at + i) 0 q) ∙ ap (λ (x : List ℕ). getD x (at + i) 0) e ∙ getD-take n t (at + i) 0 q
 
 pub same-header : (s s′ : List ℕ) → take headerWidth s′ ≡ take headerWidth s → headerOf s′ ≡ headerOf s
-same-header s s′ e =
-    rw (
-      front-same 14 1 5 s′ s e (omega arith),
-      front-same 14 1 6 s′ s e (omega arith),
-      front-same 14 4 7 s′ s e (omega arith),
-      front-same 14 1 11 s′ s e (omega arith),
-      front-same 14 1 12 s′ s e (omega arith),
-      front-same 14 1 13 s′ s e (omega arith),
-    )
+same-header s s′ e = header-same s′ s (λ w k b. front-same 14 w (5 + k) s′ s e (omega arith))
 
 -- A buffer begins with what was written over its front; after an accepted sheet that is the result.
 pub over-begins : (p out : List ℕ) {x : List ℕ} → x ≡ over p out → Holds x 0 p

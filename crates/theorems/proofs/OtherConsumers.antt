@@ -17,7 +17,7 @@ use Rattle.rules.specs.Result.{resultLength, resultOf}
 use Rattle.rules.specs.Refusals.{refusal}
 use Rattle.rules.specs.Outcome.{Accepted, bufferAfter}
 use Rattle.laws.proofs.Fields.{same-bytes}
-use Rattle.laws.proofs.Sheet.{rows-end, row-same}
+use Rattle.laws.proofs.Sheet.{rows-end, header-same, row-same}
 use Rattle.laws.proofs.Refusals.{limits, accepted}
 use Rattle.laws.proofs.Answers.{is-changed}
 use Rattle.theorems.specs.Alike.{SameProducer, Alike}
@@ -43,16 +43,7 @@ module _ (s t : List ℕ) (as-long : length t ≡ length s) (front-kept : (i : �
 
   pub same-layout : layoutOf t ≡ layoutOf s
   unfolding version
-  same-layout =
-      rw (
-        in-header 1 4 (omega arith),
-        in-header 1 5 (omega arith),
-        in-header 1 6 (omega arith),
-        in-header 4 7 (omega arith),
-        in-header 1 11 (omega arith),
-        in-header 1 12 (omega arith),
-        in-header 1 13 (omega arith),
-      )
+  same-layout = rw (in-header 1 4 (omega arith), header-same t s (λ w k b. in-header w (5 + k) (omega arith)))
 
   same-length-field : lengthField t ≡ lengthField s
   unfolding lengthField

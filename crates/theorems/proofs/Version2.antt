@@ -11,7 +11,7 @@ use Rattle.rules.specs.Limits.{HeaderLimits, FormLimits}
 use Rattle.rules.specs.Fields.{bigEndian, bytesFrom, field, laid, widthOf, joined}
 use Rattle.rules.specs.Sheet.{lengthField, version, headerOf, layoutOf, monthOf, statesDays, producerAt, producerUnder, rowAt, rowOf, dayAt, consumerAt, consumerOf, sheetLength, inVersion2}
 use Rattle.laws.proofs.Fields.{Holds, holds-left, holds-right, length-laid, Fit, read-laid, length-joined, held-record}
-use Rattle.laws.proofs.Sheet.{SameFields, length-from, held-from, row-width-1, row-width-2, sheet-length, producers-le, front-same, consumer-same}
+use Rattle.laws.proofs.Sheet.{SameFields, length-from, held-from, row-width-1, row-width-2, sheet-length, producers-le, header-same, front-same, consumer-same}
 use Rattle.theorems.specs.Alike.{SameProducer}
 use Rattle.theorems.specs.Request5.{FullRow, FullRows}
 use Rattle.theorems.proofs.Alike.{producer-same}
@@ -85,9 +85,6 @@ module _ (s : List ℕ) (form : FormLimits s) (first : version s ≡ 1) where
       let e : 5 + (at - 5) ≡ at = omega arith in
       ap (bigEndian w t) (sym e) ∙ producers-same w (at - 5) (omega arith) ∙ ap (bigEndian w s) e
 
-  in-header : (w at : ℕ) → 5 ≤ at → at + w ≤ 14 → bigEndian w t at ≡ bigEndian w s at
-  in-header w at a b = front w at a (omega (arith, rows-from))
-
   -- The length that version 2 asks for, which the head states.
   longer : lengthField s + 2 * headerOf s .rows ≡ sheetLength l′
   longer =
@@ -135,12 +132,7 @@ module _ (s : List ℕ) (form : FormLimits s) (first : version s ≡ 1) where
   layout-after =
       rw (
         head-read .1,
-        in-header 1 5 (omega arith) (omega arith),
-        in-header 1 6 (omega arith) (omega arith),
-        in-header 4 7 (omega arith) (omega arith),
-        in-header 1 11 (omega arith) (omega arith),
-        in-header 1 12 (omega arith) (omega arith),
-        in-header 1 13 (omega arith) (omega arith),
+        header-same t s (λ w k b. front w (5 + k) (omega arith) (omega (arith, rows-from))),
       )
 
   header-after : headerOf t ≡ headerOf s
