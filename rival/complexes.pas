@@ -41,7 +41,8 @@ type
     Refusal: Integer;            { one of RecordNumbers, or NotRefused }
     RecordFaults: TRecordFaults; { the grounds of 16 }
     TooHigh: TPowerKinds;        { among which powers some are too high, the ground of 17 }
-    Average: TAverage;           { of net power over the control hours; 0 if refused }
+    Average: TAverage;           { of net power over the control hours, to a tenth; 0 if
+                                   refused }
     Peak: Int64;                 { tenths of a megawatt; 0 if refused }
   end;
 
@@ -180,7 +181,7 @@ begin
   else
   begin
     Outcome.Average := AverageOver(ControlHoursOf(Header),
-      NetPowers(Complex.Drawn, Complex.Sent));
+      NetPowers(Complex.Drawn, Complex.Sent), toTenth);
     Outcome.Peak := PeakFrom(Outcome.Average, Complex.Imported);
   end;
 end;

@@ -116,9 +116,10 @@ var
   AllDrawn, AllSent: TAverage;
 begin
   Control := ControlHoursOf(Header);
-  AllDrawn := AverageOver(Control, Complex.Drawn);
-  AllSent := AverageOver(Control, Complex.Sent);
-  Result := AverageOf(LessNotBelowNought(AllDrawn.Sum, AllSent.Sum), AllDrawn.Hours);
+  AllDrawn := AverageOver(Control, Complex.Drawn, toTenth);
+  AllSent := AverageOver(Control, Complex.Sent, toTenth);
+  Result := AverageOf(LessNotBelowNought(AllDrawn.Sum, AllSent.Sum), AllDrawn.Hours,
+    toTenth);
 end;
 
 procedure AddRoundingMark(var Line: string; const Average: TAverage);
@@ -215,7 +216,7 @@ procedure AddSlipMarks(var Line: string; const Header: THeader; const Complex: T
 
   function PeakDiffers(const Counted: TCountedHours; const Powers: TPowers): Boolean;
   begin
-    Result := PeakFrom(AverageOver(Counted, Powers), Complex.Imported) <> Peak;
+    Result := PeakFrom(AverageOver(Counted, Powers, toTenth), Complex.Imported) <> Peak;
   end;
 
 var

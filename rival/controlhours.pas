@@ -1,8 +1,9 @@
 { Control hours, document 01's section of that name, and the average of a power over
-  hours of the month: of outside use in settlements.pas, of net power in complexes.pas.
+  hours of the month: of outside use in settlements.pas, to a hundredth since request 6 of
+  document 02, and of net power in complexes.pas, to a tenth.
 
   Figures are kept in Int64: a power is at most 100,000 tenths and a month has at most
-  744 hours, so no sum passes 74,400,000. }
+  744 hours, so no sum passes 74,400,000 tenths, or 744,000,000 hundredths. }
 unit controlhours;
 
 {$mode objfpc}{$H+}{$R+}{$Q+}
@@ -16,6 +17,8 @@ const
   FirstControlHour = 17;
   LastControlHour = 22;
 
+  HundredthsInTenth = 10; { of a megawatt }
+
 type
   { A power for each hour, from hour 0 of day 1, in tenths of a megawatt. }
   TPowers = array of Int64;
@@ -23,11 +26,14 @@ type
   { Which hours of the month are counted; none past its end. }
   TCountedHours = array[0..MostHours - 1] of Boolean;
 
+  { The unit that an average is rounded to, of a megawatt. }
+  TFineness = (toTenth, toHundredth);
+
   TAverage = record
     Hours: Int64;       { how many are counted }
     Sum: Int64;         { of the powers in these hours, tenths }
-    Figure: Int64;      { rounded to a tenth; 0 if no hour is counted }
-    ExactHalf: Boolean; { it lay exactly half way between two tenths }
+    Figure: Int64;      { rounded, in the unit asked for; 0 if no hour is counted }
+    ExactHalf: Boolean; { it lay exactly half way between two of these units }
   end;
 
 function IsWeekend(const Header: THeader; Day: Integer): Boolean;
@@ -41,8 +47,10 @@ procedure CountHours(var Counted: TCountedHours; Day, First, Last: Integer);
 
 function ControlHoursOf(const Header: THeader): TCountedHours;
 
-function AverageOf(Sum, Hours: Int64): TAverage;
-function AverageOver(const Counted: TCountedHours; const Powers: TPowers): TAverage;
+{ Both are rounded once, from the exact average. }
+function AverageOf(Sum, Hours: Int64; Fineness: TFineness): TAverage;
+function AverageOver(const Counted: TCountedHours; const Powers: TPowers;
+  Fineness: TFineness): TAverage;
 
 implementation
 
@@ -51,6 +59,8 @@ uses
 
 const
   Friday = 5;
+
+  UnitsInTenth: array[TFineness] of Int64 = (1, HundredthsInTenth);
 
 { -------------------------------------------------------------------- days }
 
@@ -94,17 +104,19 @@ end;
 
 { ----------------------------------------------------------------- average }
 
-function AverageOf(Sum, Hours: Int64): TAverage;
+function AverageOf(Sum, Hours: Int64; Fineness: TFineness): TAverage;
 begin
   Result.Hours := Hours;
   Result.Sum := Sum;
   Result.Figure := 0;
   Result.ExactHalf := False;
   if Hours > 0 then
-    Result.Figure := RoundedHalfUp(Whole(Sum) / Whole(Hours), Result.ExactHalf);
+    Result.Figure := RoundedHalfUp(Whole(UnitsInTenth[Fineness] * Sum) / Whole(Hours),
+      Result.ExactHalf);
 end;
 
-function AverageOver(const Counted: TCountedHours; const Powers: TPowers): TAverage;
+function AverageOver(const Counted: TCountedHours; const Powers: TPowers;
+  Fineness: TFineness): TAverage;
 var
   Hour: Integer;
   Sum, Hours: Int64;
@@ -117,7 +129,7 @@ begin
       Hours := Hours + 1;
       Sum := Sum + Powers[Hour];
     end;
-  Result := AverageOf(Sum, Hours);
+  Result := AverageOf(Sum, Hours, Fineness);
 end;
 
 end.

@@ -22,6 +22,9 @@ function NumberText(Value: Int64): string;
 
 implementation
 
+uses
+  controlhours;
+
 const
   EdgeCount = 8;
   Edges: array[1..EdgeCount] of Int64 = (50, 51, 200, 201, 400, 401, 500, 501);
@@ -60,20 +63,21 @@ procedure AddProducerMarks(var Line: string; const Producer: TProducer;
 begin
   with Figures do
   begin
-    AddMark(Line, 'k1band' + NumberText(Band));
-    AddEdgeMarks(Line, 'k1', P);
+    AddMark(Line, 'k1band' + NumberText(OverUse.Band));
+    AddEdgeMarks(Line, 'k1', OverUse.P);
     if SupportSum = 0 then
     begin
-      if N * OverUse = 0 then
+      if OverUse.N * OverUse.D = 0 then
         AddMark(Line, 'k1zeroT')
       else
         AddMark(Line, 'k1zeroTpos');
     end
-    else if N * OverUse > 10 * SupportSum then { n stands in tenths }
+    { n stands in tenths, D in hundredths of a megawatt, T in tenths of one. }
+    else if OverUse.N * OverUse.D > 10 * HundredthsInTenth * SupportSum then
       AddMark(Line, 'k1floor');
     if Producer.DeductibleCapacity = 0 then
     begin
-      if OverUse = 0 then
+      if OverUse.D = 0 then
         AddMark(Line, 'k1q0e0')
       else
         AddMark(Line, 'k1q0epos');

@@ -1,12 +1,13 @@
-{ The rival: a second reading of document 01 and of requests 1, 3, 4 and 5 of document 02,
-  to compare a proved program with. See README.md for its commands. }
+{ The rival: a second reading of document 01 and of requests 1, 3, 4, 5 and 6 of document
+  02, to compare a proved program with. See README.md for its commands. }
 program rival;
 
 {$mode objfpc}{$H+}{$R+}{$Q+}
 
 uses
   SysUtils, sheets, refusals, settlements, results, transfers, complexes, texts2015,
-  listings, traces, marks, daymarks, transfermarks, complexmarks, marks2015, bytefiles;
+  listings, traces, marks, daymarks, hundredthmarks, transfermarks, complexmarks,
+  marks2015, bytefiles;
 
 const
   MostBytesListed = 65536;    { section Listing: what is handed over of a longer input }
@@ -278,6 +279,7 @@ begin
     Exit(RefusalMarksText(Sheet, Refusal));
   Result := MarksText(Sheet, Settlement);
   AddDayMarks(Result, Sheet, Settlement);
+  AddHundredthMarks(Result, Sheet, Settlement);
 end;
 
 { Document 01's settlement is taken too, for what the two texts see differently. }

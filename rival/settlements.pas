@@ -4,10 +4,11 @@
   Whole figures and their sums are kept in Int64. They fit with much to spare: a
   capacity figure is at most 100,000 tenths, a month has at most 744 hours, so
   no sum over hours passes 74,400,000; a sheet has at most 32 rows, so no sum
-  over rows passes 3,300,000. Every product and every quotient is worked out in
-  exact fractions. Money is kept in QWord: one charge can reach about 4.1 x
-  10^17 tiyn, and 32 of them 1.31 x 10^19, which is past Int64 but not past
-  QWord. }
+  over rows passes 3,300,000. Where k1 works in hundredths (request 6 of document
+  02), these figures are ten times as large. Every product and every quotient is
+  worked out in exact fractions. Money is kept in QWord: one charge can reach
+  about 4.1 x 10^17 tiyn, and 32 of them 1.31 x 10^19, which is past Int64 but
+  not past QWord. }
 unit settlements;
 
 {$mode objfpc}{$H+}{$R+}{$Q+}
@@ -22,9 +23,9 @@ const
   MillionthsInTenth = 100000;
 
 type
-  { Each figure that document 01 or request 5 of document 02 has rounded. The set of ties
-    tells which of them lay exactly on a half somewhere in the sheet; no figure depends
-    on it. }
+  { Each figure that document 01, as requests 5 and 6 of document 02 change it, has
+    rounded. The set of ties tells which of them lay exactly on a half somewhere in the
+    sheet; no figure depends on it. }
   TRoundedFigure = (figAverage, figP, figK1, figK2, figK4, figK5,
     figProduct, figDays, figVolume, figPayment, figConsumerVolume, figCharge);
   TTies = set of TRoundedFigure;
@@ -33,6 +34,14 @@ type
 
   TCoefficients = array[1..10] of Int64; { k1 to k10, millionths }
 
+  { What k1 is made of, beside T. }
+  TOverUse = record
+    D: Int64;              { the control average less the deductible, hundredths }
+    P: Int64;              { thousandths of the deductible }
+    Band: TBandNumber;
+    N: Int64;              { tenths }
+  end;
+
   TProducerFigures = record
     SupportSum: Int64;     { T, tenths, before the cut }
     BilateralSum: Int64;   { B, tenths, before the cut }
@@ -40,11 +49,8 @@ type
     Excess: Int64;         { to be cut from the rows, tenths }
     ControlHours: Int64;
     ControlSum: Int64;     { outside use over the control hours, tenths }
-    ControlAverage: Int64; { tenths }
-    OverUse: Int64;        { D, tenths }
-    P: Int64;              { thousandths of the deductible }
-    Band: TBandNumber;
-    N: Int64;              { tenths }
+    ControlAverage: Int64; { hundredths }
+    OverUse: TOverUse;
     SumOfM: Int64;         { sum over the hours of the smaller of S and possible }
     SumWorked: Int64;      { sum over the hours of the smaller of m and working }
     K: TCoefficients;
@@ -82,11 +88,15 @@ type
 procedure Settle(const Sheet: TSheet; out Settlement: TSettlement);
 
 { Parts of it, for marks that ask what other figures would have given: the producers'
-  figures with their rows' volumes after the cut, and the cut of one producer's rows
-  alone. }
+  figures with their rows' volumes after the cut, the cut of one producer's rows alone,
+  and the steps of k1: D with its band, from an average and a deductible capacity in
+  hundredths; the penalty n x D, in hundredths; k1, from that penalty and T in tenths. }
 procedure SettleProducers(const Sheet: TSheet; var Settlement: TSettlement);
 procedure CutRows(const Sheet: TSheet; ProducerNumber: Integer; Excess: Int64;
   var Settlement: TSettlement);
+function OverUseOf(Average, Deductible: Int64; var Ties: TTies): TOverUse;
+function NTimesD(const OverUse: TOverUse): TFraction;
+function K1Of(const Penalty: TFraction; SupportSum: Int64; var Ties: TTies): Int64;
 
 implementation
 
@@ -171,14 +181,14 @@ begin
     Result[Hour] := Producer.Hours[Hour].OutsideUse;
 end;
 
-{ Section Control hours: the control average of outside use. }
+{ Section Control hours: the control average of outside use, to a hundredth. }
 procedure TakeControlAverage(const Header: THeader; const Producer: TProducer;
   var Figures: TProducerFigures; var Ties: TTies);
 var
   Average: TAverage;
 begin
   Average := AverageOver(ControlHoursOf(Header),
-    OutsideUseOf(Producer, HoursInMonth(Header)));
+    OutsideUseOf(Producer, HoursInMonth(Header)), toHundredth);
   Figures.ControlHours := Average.Hours;
   Figures.ControlSum := Average.Sum;
   Figures.ControlAverage := Average.Figure;
@@ -231,23 +241,38 @@ end;
 { ------------------------------------------------------------ coefficients }
 
 { Section Coefficients, k1: outside use in the control hours above the deductible. }
-procedure TakeK1(const Producer: TProducer; var Figures: TProducerFigures; var Ties: TTies);
-var
-  D, N, T: TFraction;
+function OverUseOf(Average, Deductible: Int64; var Ties: TTies): TOverUse;
 begin
-  Figures.OverUse := Larger(Figures.ControlAverage - Producer.DeductibleCapacity, 0);
-  D := Whole(Figures.OverUse);
-  Figures.P := ThousandthsOf(D, Whole(Producer.DeductibleCapacity), Ties);
-  Figures.Band := BandOf(Figures.P);
-  Figures.N := BandTable[Figures.Band].Factor;
-  N := Part(Figures.N, 10);
-  T := Whole(Figures.SupportSum);
+  Result.D := Larger(Average - Deductible, 0);
+  Result.P := ThousandthsOf(Whole(Result.D), Whole(Deductible), Ties);
+  Result.Band := BandOf(Result.P);
+  Result.N := BandTable[Result.Band].Factor;
+end;
+
+function NTimesD(const OverUse: TOverUse): TFraction;
+begin
+  Result := Part(OverUse.N, 10) * Whole(OverUse.D);
+end;
+
+function K1Of(const Penalty: TFraction; SupportSum: Int64; var Ties: TTies): Int64;
+var
+  T: TFraction; { in hundredths, as the penalty is }
+begin
+  T := Whole(HundredthsInTenth * SupportSum);
   if not IsNought(T) then
-    Figures.K[1] := Coefficient(figK1, LessNotBelowNought(Whole(1), N * D / T), Ties)
-  else if IsNought(N * D) then
-    Figures.K[1] := Million
+    Result := Coefficient(figK1, LessNotBelowNought(Whole(1), Penalty / T), Ties)
+  else if IsNought(Penalty) then
+    Result := Million
   else
-    Figures.K[1] := 0;
+    Result := 0;
+end;
+
+{ All of it in hundredths (request 6 of document 02): the sheet's tenths count ten each. }
+procedure TakeK1(const Producer: TProducer; var Figures: TProducerFigures; var Ties: TTies);
+begin
+  Figures.OverUse := OverUseOf(Figures.ControlAverage,
+    HundredthsInTenth * Int64(Producer.DeductibleCapacity), Ties);
+  Figures.K[1] := K1Of(NTimesD(Figures.OverUse), Figures.SupportSum, Ties);
 end;
 
 { k2: the worse of the two bid counts, not both. }

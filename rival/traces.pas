@@ -28,6 +28,11 @@ begin
   Result := Result + '.' + Tail;
 end;
 
+function HundredthsText(Hundredths: QWord): string;
+begin
+  Result := DecimalText(Hundredths, 100, 2);
+end;
+
 function MillionthsText(Millionths: QWord): string;
 begin
   Result := DecimalText(Millionths, 1000000, 6);
@@ -50,8 +55,8 @@ begin
       ', B ', TenthsText(BilateralSum), ', S ', TenthsText(WholeSum),
       ', excess ', TenthsText(Excess));
     WriteLn(Paper, '  control hours ', ControlHours, ', their sum ', TenthsText(ControlSum),
-      ', average ', TenthsText(ControlAverage), ', D ', TenthsText(OverUse),
-      ', p ', P, ', n ', TenthsText(N));
+      ', average ', HundredthsText(ControlAverage), ', D ', HundredthsText(OverUse.D),
+      ', p ', OverUse.P, ', n ', TenthsText(OverUse.N));
     WriteLn(Paper, '  sum of m ', TenthsText(SumOfM),
       ', sum of the smaller of m and working ', TenthsText(SumWorked));
     WriteLn(Paper, '  k1 ', MillionthsText(K[1]), ', k2 ', MillionthsText(K[2]),
