@@ -9,9 +9,8 @@ ghost use Rattle.rules.specs.Said.{said};
 use calendar::control_days;
 use complex_record::complex;
 use complex_record::imported;
-use complex_record::net_control;
+use complex_record::net_average;
 use complex_record::record_refusal;
-use hours::average_less;
 use places::peak_at;
 use refusals_sheet::sheet_refusal;
 use rules::Answer;
@@ -26,8 +25,7 @@ fn complex_peak(h: Header, rec: &[u8]) -> Tenths
     requires { ⌜ (recordWidth h ≤ length (now rec)) × (h .days ≤ 31) × (1 ≤ h .weekday) × (h .weekday ≤ 7) ⌝ }
     ensures { λ r. ⌜ r .0 ≡ complexPeak h (now (rec .entry)) ⌝ }
 {
-    let net = net_control(rec, h.days, control_days(h));
-    average_less(net, Tenths::stated(imported(rec)))
+    net_average(rec, h.days, control_days(h)).less(Tenths::stated(imported(rec)))
 }
 
 // The sheet with a peak of consumer c.

@@ -1,28 +1,29 @@
 // The band tables, and the parts of a reference that they are read by.
 ghost use mathlib.Core.Path.{_≡_};
-ghost use Rattle.rules.specs.Bands.{partsOf, thousandths, factorOf, bandOf};
+ghost use Rattle.rules.specs.Bands.{partsOf, factorOf, bandOf};
 ghost use Rattle.rules.specs.Text2015.{bands2015};
 use rules::Band;
 use units::nearest;
 
-// An excess in parts of a reference, so many to a whole; over a reference of 0 any excess is the figure that is given for it.
-pub fn parts_of(whole: u32, beyond: u64, excess: u32, reference: u32) -> u64
-    ensures { λ r. ⌜ r ≡ partsOf whole beyond excess reference ⌝ }
+// So many parts over a reference; over a reference of 0 any are the figure that is given for it. Who asks takes an excess so many times as
+// there are parts in a whole, and knows that the product fits.
+pub fn parts_of(beyond: u64, parts: u64, reference: u64) -> u64
+    ensures { λ r. ⌜ r ≡ partsOf 1 beyond parts reference ⌝ }
 {
     if reference == 0 {
-        if excess == 0 {
+        if parts == 0 {
             return 0;
         }
         return beyond;
     }
-    nearest(excess as u64 * whole as u64, reference as u64)
+    nearest(parts, reference)
 }
 
-// An excess in thousandths of a reference; over a reference of 0 any excess is past the fourth band.
-pub fn thousandths(excess: u32, reference: u32) -> u64
-    ensures { λ r. ⌜ r ≡ thousandths excess reference ⌝ }
+// An excess, taken a thousand times, in thousandths of a reference; over a reference of 0 any excess is past the fourth band.
+pub fn thousandths(thousandfold: u64, reference: u64) -> u64
+    ensures { λ r. ⌜ r ≡ partsOf 1 501 thousandfold reference ⌝ }
 {
-    parts_of(1000, 501, excess, reference)
+    parts_of(501, thousandfold, reference)
 }
 
 // The band table of document 01, in thousandths. The last row is open above: its edge is not looked at.

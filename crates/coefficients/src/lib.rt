@@ -1,18 +1,8 @@
-// The parts of a producer's coefficients, on plain numbers.
+// The coefficients of missing hours, on plain numbers.
 ghost use mathlib.Core.Path.{_≡_};
-ghost use Prim.Native.Nat.{_-_, _*_, max};
-ghost use Rattle.rules.specs.Bands.{bandOf, thousandths};
+ghost use Prim.Native.Nat.{_-_, max};
 ghost use Rattle.rules.specs.Coefficients.{share};
-use bands::factor;
-use bands::thousandths;
 use units::share;
-
-// n × D of k1, in hundredths of a megawatt.
-pub fn penalty(over: u32, deductible: u32) -> u64
-    ensures { λ r. ⌜ r ≡ bandOf (thousandths over deductible) * over ⌝ }
-{
-    (factor(thousandths(over, deductible)) as u64) * (over as u64)
-}
 
 // k2.
 pub fn bids(hours: u32, up: u16, down: u16) -> u64

@@ -1,17 +1,17 @@
--- Net power in a record, as the sums over the control hours take it.
+-- Net power in a record, as the control average takes it.
 use Prim.Native.Nat.{ℕ}
 use mathlib.Core.Bool.{Bool}
 use mathlib.Core.List.{List}
 use lib.ListN.{drop}
+use Rattle.rules.specs.Units.{tenth}
 use Rattle.rules.specs.ComplexRecord.{recordFront, drawnSeries, sentSeries}
-use Rattle.hours.specs.declared.control.Control.{Control}
 use Rattle.hours.specs.declared.series.Hourly.{Hourly}
-use Rattle.hours.specs.Control.{controlIn}
+use Rattle.hours.specs.Control.{averageIn}
 
 -- Drawn less sent out, in the hours of a record. [Requests, 3]
 abbrev pub netPower : Hourly
 netPower = Hourly.Net drawnSeries sentSeries
 
--- The sum of net power over the hours 17 to 22 of the days that are marked, and how many hours these are.
-abbrev pub netControl : List ℕ → ℕ → List Bool → Control
-netControl r days on = controlIn (drop recordFront r) netPower days on
+-- Its average over the hours 17 to 22 of the days that are marked, to a tenth.
+abbrev pub netAverage : List ℕ → ℕ → List Bool → ℕ
+netAverage r days on = averageIn tenth (drop recordFront r) netPower days on

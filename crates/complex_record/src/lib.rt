@@ -1,19 +1,19 @@
-// The record of an industrial complex: its figures, net power over the control hours, and numbers 16 and 17.
+// The record of an industrial complex: its figures, its net power on average, and numbers 16 and 17.
 ghost use mathlib.Core.Path.{_≡_};
 ghost use Rattle.rules.specs.ComplexRecord.{complex, imported};
 ghost use Rattle.rules.specs.Averaging.{badRecord, recordTests};
 ghost use Rattle.rules.specs.Refusals.{firstOf};
-ghost use Rattle.complex_record.specs.Net.{netPower, netControl};
+ghost use Rattle.complex_record.specs.Net.{netPower, netAverage};
 use calendar::ControlDays;
 use fields::byte;
 use fields::word;
-use hours::Control;
 use hours::Hourly;
-use hours::control_hours;
+use hours::average_to_tenth;
 use refusals_form::first;
 use refusals_powers::high_together;
 use rules::Header;
 use rules::Series;
+use units::Tenths;
 
 // The consumer of the sheet that the complex is.
 pub fn complex(rec: &[u8]) -> u8
@@ -38,15 +38,15 @@ fn net_power() -> Hourly
     Hourly::Net(drawn, sent)
 }
 
-// Net power over the control hours of a month of so many days. Nothing is counted where the record ends before the hours do.
-pub fn net_control(rec: &[u8], days: u8, control: ControlDays) -> Control
-    ensures { λ r. ⌜ r ≡ netControl (now (rec .entry)) days (control .on) ⌝ }
+// The control average of net power, to a tenth, in a month of so many days. Nothing is counted where the record ends before the hours do.
+pub fn net_average(rec: &[u8], days: u8, control: ControlDays) -> Tenths
+    ensures { λ r. ⌜ r .0 ≡ netAverage (now (rec .entry)) days (control .on) ⌝ }
 {
     let x = net_power();
     if rec.len() < 9 {
-        return control_hours(&rec[..0], x, days, control);
+        return average_to_tenth(&rec[..0], x, days, control);
     }
-    control_hours(&rec[9..], x, days, control)
+    average_to_tenth(&rec[9..], x, days, control)
 }
 
 // 16.

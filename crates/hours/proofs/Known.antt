@@ -1,4 +1,4 @@
--- The sum over the control hours is the control sum of the definitions, where the days that are marked are those of the table. Assumes nothing.
+-- The control average is that of the definitions, where the days that are marked are those of the table. Assumes nothing.
 use mathlib.Core.Path.{_≡_, refl, sym, ap, ap₂, _∙_}
 use mathlib.Core.Bool.{Bool, true, false}
 use mathlib.Core.List.{List}
@@ -8,7 +8,7 @@ use borrow.Author.Tests.{le-leb}
 use lib.ListN.{length, getD}
 use Rattle.rules.specs.declared.Header.{Header}
 use Rattle.rules.specs.Range.{sum, when, listed}
-use Rattle.rules.specs.ControlHours.{controlDay, controlSum, controlCount}
+use Rattle.rules.specs.ControlHours.{controlDay, controlSum, controlCount, controlAverage}
 use Rattle.rules.specs.ControlTable.{tableDay}
 use Rattle.laws.proofs.Range.{sum-same}
 use Rattle.laws.proofs.Arrays.{getD-listed}
@@ -17,7 +17,7 @@ use Rattle.laws.proofs.ControlTable.{table-day}
 use Rattle.units.specs.Sums.{tenths}
 use Rattle.hours.specs.declared.series.Hourly.{Hourly}
 use Rattle.hours.specs.Series.{hourlyStands, hourlyIn}
-use Rattle.hours.specs.Control.{controlIn}
+use Rattle.hours.specs.Control.{controlIn, averageIn}
 
 module _ (h : Header) (few : h .days ≤ 31) (from : 1 ≤ h .weekday) (to : h .weekday ≤ 7) {on : List Bool} (days : on ≡ listed (tableDay h) 256) where
   marked : (d : ℕ) → d < h .days → getD on d false ≡ controlDay h d
@@ -36,6 +36,10 @@ module _ (h : Header) (few : h .days ≤ 31) (from : 1 ≤ h .weekday) (to : h .
     unfolding controlSum
     sum-known = sum-same _ _ {n = h .days} refl (λ d b. ap₂ when (marked d b) (evening-read d b)) ∙ sym (control-by-day h series (h .days))
 
-    pub control-known : controlIn part x (h .days) on ≡ record { counted = tenths (controlSum h series); count = controlCount h }
+    control-known : controlIn part x (h .days) on ≡ record { counted = tenths (controlSum h series); count = controlCount h }
     unfolding controlIn
     control-known = rw (le-leb (h .days) 31 few, standing, sum-known, count-known)
+
+    pub average-known : (fineness : ℕ) → averageIn fineness part x (h .days) on ≡ controlAverage fineness h series
+    unfolding controlAverage
+    average-known fineness = rw control-known

@@ -5,6 +5,7 @@ use mathlib.Core.List.{List}
 use lib.ListN.{length, getD}
 use lib.Dec.{leb}
 use Rattle.rules.specs.Range.{sum, when}
+use Rattle.rules.specs.ControlHours.{average}
 use Rattle.laws.proofs.ControlHours.{evening}
 use Rattle.units.specs.Sums.{tenths}
 use Rattle.hours.specs.declared.control.Control.{Control}
@@ -25,3 +26,7 @@ controlIn part x days on =
     cond (leb days 31 && hourlyStands (length part) x (24 * days))
     (controlOf (hourlyIn part x) on days)
     (record { counted = tenths 0; count = 0 })
+
+-- Its control average, in units of which so many are a tenth. [Control hours; Requests, 6]
+abbrev pub averageIn : ℕ → List ℕ → Hourly → ℕ → List Bool → ℕ
+averageIn fineness part x days on = average (fineness * controlIn part x days on .counted .0) (controlIn part x days on .count)

@@ -1,22 +1,24 @@
-// The sum of an hourly figure over the control hours, and how many hours these are.
+// The control average of an hourly figure: its sum over the control hours by their count, to a tenth or to a hundredth.
 ghost use mathlib.Core.Path.{_≡_};
 ghost use Prim.Native.Nat.{_+_, _-_, _*_, _<_, _≤_};
 ghost use Rattle.rules.specs.ControlHours.{average};
 ghost use Rattle.laws.proofs.ControlHours.{evening};
 ghost use Rattle.laws.specs.Bounds.{mostWord};
 ghost use Rattle.hours.specs.Series.{HourlyStands, hourlyIn};
-ghost use Rattle.hours.specs.Control.{controlOf, controlIn};
+ghost use Rattle.rules.specs.Units.{tenth, hundredth};
+ghost use Rattle.hours.specs.Control.{controlOf, controlIn, averageIn};
 use crate::series::Hourly;
 use crate::series::figure_at;
 use crate::series::hourly_stands;
 use calendar::ControlDays;
+use units::Hundredths;
 use units::Tenths;
 use units::nearest;
 
 // The figures of the control hours in all, and how many hours these are.
-pub struct Control {
-    pub counted: Tenths,
-    pub count: u64,
+struct Control {
+    counted: Tenths,
+    count: u64,
 }
 
 // The figures of a day's hours 17 to 22 in all.
@@ -36,7 +38,8 @@ fn evening_sum(part: &[u8], x: Hourly, day: usize) -> Tenths
 // Day by day: six hours of each control day.
 fn by_day(part: &[u8], x: Hourly, days: u8, control: ControlDays) -> Control
     requires { ⌜ HourlyStands (now part) x (24 * days) × (days ≤ 31) ⌝ }
-    ensures { λ r. ⌜ (r ≡ controlOf (hourlyIn (now (part .entry)) x) (control .on) days) × (r .counted .0 ≤ mostWord * r .count) ⌝ }
+    ensures { λ r. ⌜ (r ≡ controlOf (hourlyIn (now (part .entry)) x) (control .on) days) × (r .counted .0 ≤ mostWord * r .count)
+        × (r .count ≤ 186) ⌝ }
 {
     let mut counted = Tenths(0);
     let mut count: u64 = 0;
@@ -52,9 +55,9 @@ fn by_day(part: &[u8], x: Hourly, days: u8, control: ControlDays) -> Control
 }
 
 // Of a month of so many days. Nothing is counted where the part ends before the powers do, or in a month of more than 31 days.
-pub fn control_hours(part: &[u8], x: Hourly, days: u8, control: ControlDays) -> Control
+fn control_hours(part: &[u8], x: Hourly, days: u8, control: ControlDays) -> Control
     ensures { λ r. ⌜ r ≡ controlIn (now (part .entry)) x days (control .on) ⌝ }
-    ensures fits { λ r. ⌜ r .counted .0 ≤ mostWord * r .count ⌝ }
+    ensures fits { λ r. ⌜ (r .counted .0 ≤ mostWord * r .count) × (r .count ≤ 186) ⌝ }
 {
     if (days <= 31) & hourly_stands(part, x, 24 * (days as u16)) {
         return by_day(part, x, days, control);
@@ -65,10 +68,26 @@ pub fn control_hours(part: &[u8], x: Hourly, days: u8, control: ControlDays) -> 
     }
 }
 
-// The control average less a figure, not below 0.
-pub fn average_less(control: Control, taken: Tenths) -> Tenths
-    ensures { λ r. ⌜ r .0 ≡ average (control .counted .0) (control .count) - taken .0 ⌝ }
+// Their sum by their count, in units of which so many are a tenth.
+fn average_of(control: Control, fineness: u64) -> u64
+    requires { ⌜ (control .counted .0 ≤ mostWord * control .count) × (control .count ≤ 186) × (fineness ≤ 10) ⌝ }
+    ensures { λ r. ⌜ r ≡ average (fineness * control .counted .0) (control .count) ⌝ }
 {
     let counted = control.counted;
-    Tenths(nearest(counted.0, control.count)).less(taken)
+    nearest(fineness * counted.0, control.count)
+}
+
+// The control average to a tenth, in a month of so many days; 0 where nothing is counted.
+pub fn average_to_tenth(part: &[u8], x: Hourly, days: u8, control: ControlDays) -> Tenths
+    ensures { λ r. ⌜ r .0 ≡ averageIn tenth (now (part .entry)) x days (control .on) ⌝ }
+{
+    Tenths(average_of(control_hours(part, x, days, control), 1))
+}
+
+// The same to a hundredth.
+pub fn average_to_hundredth(part: &[u8], x: Hourly, days: u8, control: ControlDays) -> Hundredths
+    ensures { λ r. ⌜ r .0 ≡ averageIn hundredth (now (part .entry)) x days (control .on) ⌝ }
+    ensures fits { λ r. ⌜ r .0 ≤ 10 * mostWord ⌝ }
+{
+    Hundredths(average_of(control_hours(part, x, days, control), 10))
 }

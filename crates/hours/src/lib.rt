@@ -1,11 +1,10 @@
-// Sums over the hours of a month, from a lent part with series of hourly powers: k4's sums, and the sum over the control hours.
+// Over the hours of a month, from a lent part with series of hourly powers: k4's sums, and the control average.
 mod control;
 mod k4;
 mod series;
 
-pub use control::Control;
-pub use control::average_less;
-pub use control::control_hours;
+pub use control::average_to_hundredth;
+pub use control::average_to_tenth;
 pub use k4::K4;
 pub use k4::k4_sums;
 pub use series::Hourly;

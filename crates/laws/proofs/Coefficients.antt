@@ -1,10 +1,10 @@
 -- No coefficient is above 1. Assumes nothing.
-use mathlib.Core.Path.{_≡_, refl, sym}
+use mathlib.Core.Path.{_≡_, refl, sym, ap, _∙_}
 use mathlib.Core.List.{List, [], _∷_}
 use Prim.Native.Nat.{ℕ, zero, suc, zero-le, _-_, _*_, _≤_, _<_}
 use native.Mathlib.Nat.{le-refl, sub-le}
 use native.Mathlib.Omega.{arith}
-use Rattle.rules.specs.Units.{rounded, one}
+use Rattle.rules.specs.Units.{rounded, one, inThousandths}
 use Rattle.rules.specs.ControlHours.{average}
 use Rattle.rules.specs.declared.Header.{Header}
 use Rattle.rules.specs.declared.Ratio.{Ratio}
@@ -12,7 +12,7 @@ use Rattle.rules.specs.Month.{Producer, hours}
 use Rattle.rules.specs.Limits.{ProducerLimits}
 use Rattle.rules.specs.Coefficients.{ratio, share, millionthsOf, penalty, lessPenalty, exactK1, k1, k2, asked, met, exactK4, k4, k5, inOrder}
 use Rattle.laws.proofs.Range.{sum-mono}
-use Rattle.laws.proofs.Units.{rounded-over-0, rounded-at-most}
+use Rattle.laws.proofs.Units.{rounded-over-0, rounded-at-most, rounded-times}
 
 -- The zero rules apart: an average is a rounded quotient, a share of something too, and a penalty of what T has.
 pub average-is : (total n : ℕ) → average total n ≡ rounded total n
@@ -34,10 +34,17 @@ unfolding lessPenalty
 penalty-of-none zero n = absurd (n refl)
 penalty-of-none (suc x) n = refl
 
-pub penalty-of-some : (T x : ℕ) → 0 < T → lessPenalty T x ≡ ratio (10 * T - x) (10 * T)
+pub penalty-of-some : (T x : ℕ) → 0 < T → lessPenalty T x ≡ ratio (inThousandths T - x) (inThousandths T)
 unfolding lessPenalty
 penalty-of-some zero x l = absurd (omega arith)
 penalty-of-some (suc T) x l = refl
+
+-- So k1 of some T: n × D and T in thousandths of a megawatt, the quotient in millionths, divided by the tenths of T.
+pub penalty-rounded : (T x : ℕ) → 0 < T → millionthsOf (lessPenalty T x) ≡ rounded (10000 * (100 * T - x)) T
+unfolding inThousandths
+penalty-rounded T x l =
+    let part : (T * 100 - x) * one ≡ 10000 * (100 * T - x) * 100 = omega arith in
+    ap millionthsOf (penalty-of-some T x l) ∙ ratio-some _ (omega (arith, l)) ∙ ap (λ (n : ℕ). rounded n (T * 100)) part ∙ rounded-times 100 _ T (omega arith) l
 
 -- A share of a part is at most 1.
 pub share-at-most : (whole : ℕ) {part : ℕ} → part ≤ whole → share part whole ≤ one
@@ -49,7 +56,7 @@ penalty-at-most : (T x : ℕ) → millionthsOf (lessPenalty T x) ≤ one
 unfolding millionthsOf lessPenalty
 penalty-at-most zero zero = share-at-most 1 (le-refl 1)
 penalty-at-most zero (suc x) = share-at-most 1 zero-le
-penalty-at-most (suc T) x = share-at-most (10 * suc T) (sub-le (10 * suc T) x)
+penalty-at-most (suc T) x = share-at-most (inThousandths (suc T)) (sub-le (inThousandths (suc T)) x)
 
 pub met-le : (p : Producer) (S i : ℕ) → met p S i ≤ asked p S i
 unfolding met

@@ -1,5 +1,5 @@
 -- What a producer's rows are settled by: what is left to cut of them, and k1 to k10.
-use Prim.Native.Nat.{ℕ, _-_, min, max}
+use Prim.Native.Nat.{ℕ, _-_, _*_, min, max}
 use mathlib.Core.Bool.{cond, not, _||_}
 use mathlib.Core.List.{List, [], _∷_}
 use lib.ListN.{length, replicate}
@@ -10,27 +10,28 @@ use Rattle.rules.specs.declared.Stated.{Stated}
 use Rattle.rules.specs.declared.Ratio.{Ratio}
 use Rattle.rules.specs.Month.{Month, hours}
 use Rattle.rules.specs.Sheet.{sheetLength, monthUnder}
+use Rattle.rules.specs.Units.{inHundredths}
+use Rattle.rules.specs.Bands.{bandOf, thousandths}
 use Rattle.rules.specs.Cut.{leftToCut}
-use Rattle.rules.specs.ControlHours.{average}
 use Rattle.rules.specs.ControlTable.{inTable}
 use Rattle.rules.specs.Coefficients.{share, millionthsOf, coefficients}
 use Rattle.laws.proofs.Arrays.{Agrees, filled}
 use Rattle.units.specs.Sums.{tenths}
-use Rattle.hours.specs.declared.control.Control.{Control}
 use Rattle.producers.specs.declared.Terms.{Terms}
 
 -- The largest part of a ratio whose millionths fit 64 bits.
 abbrev pub mostPart : ℕ
 mostPart = 18446744073709
 
--- D of k1, from the control hours and the deductible capacity. [Coefficients, k1]
-abbrev pub overOf : Control → ℕ → ℕ
-overOf control deductible = average (control .counted .0) (control .count) - deductible
+-- n × D of k1, from the control average in hundredths and the deductible capacity in tenths. [Coefficients, k1; Requests, 6]
+abbrev pub penaltyOf : ℕ → ℕ → ℕ
+penaltyOf average deductible =
+    bandOf (thousandths (average - inHundredths deductible) (inHundredths deductible)) * (average - inHundredths deductible)
 
--- k1 to k10 in order, from a producer's stated figures and from k1 and k4 before they are rounded. [Coefficients]
-abbrev pub ksFrom : Header → Stated → Ratio → Ratio → List ℕ
+-- k1 to k10 in order, from a producer's stated figures, from k1, and from k4 before it is rounded. [Coefficients]
+abbrev pub ksFrom : Header → Stated → ℕ → Ratio → List ℕ
 ksFrom h x k1 k4 =
-    millionthsOf k1
+    k1
     ∷ share (hours h - max (x .upward) (x .downward)) (hours h)
     ∷ x .k3
     ∷ millionthsOf k4

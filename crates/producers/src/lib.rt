@@ -1,26 +1,24 @@
 // What a producer's rows are settled by: its excess and its coefficients, from any bytes under any header.
+mod k1;
+
 ghost use mathlib.Core.Path.{_≡_};
-ghost use Prim.Native.Nat.{_+_, _-_, _*_, _<_, _≤_};
+ghost use Prim.Native.Nat.{_+_, _-_, _<_, _≤_};
 ghost use lib.ListN.{length};
 ghost use Rattle.rules.specs.Sheet.{sheetLength, hoursAt, hoursWidth, monthUnder};
 ghost use Rattle.rules.specs.ControlTable.{tableDay};
-ghost use Rattle.rules.specs.Bands.{bandOf, thousandths};
-ghost use Rattle.rules.specs.Coefficients.{ratio, lessPenalty, millionthsOf};
+ghost use Rattle.rules.specs.Coefficients.{ratio, millionthsOf};
 ghost use Rattle.rules.specs.Range.{listed};
-ghost use Rattle.laws.specs.Bounds.{mostWord};
-ghost use Rattle.volumes.specs.Volumes.{Fits, mostVolume, volumesOf};
-ghost use Rattle.producers.specs.Terms.{mostPart, overOf, ksFrom, termsAt, termsOf, withTerms};
+ghost use Rattle.volumes.specs.Volumes.{Fits, volumesOf};
+ghost use Rattle.producers.specs.Terms.{mostPart, ksFrom, termsAt, termsOf, withTerms};
 use calendar::ControlDays;
 use calendar::control_days;
 use calendar::in_table;
 use coefficients::bids;
-use coefficients::penalty;
 use coefficients::plans;
-use hours::Control;
+use crate::k1::k1_of;
 use hours::Hourly;
 use hours::K4;
-use hours::average_less;
-use hours::control_hours;
+use hours::average_to_hundredth;
 use hours::k4_sums;
 use places::hour_series;
 use places::sheet_length;
@@ -32,7 +30,6 @@ use sheet::producer;
 use sheet::stretch;
 use units::ONE;
 use units::Tenths;
-use units::less;
 use units::nearest;
 use volumes::Volumes;
 use volumes::row_volumes;
@@ -46,34 +43,6 @@ pub struct Terms {
 // The terms of six producers, as many as a sheet may have.
 pub struct AllTerms {
     pub of: [Terms; 6],
-}
-
-// 1 - n × D / T, before it is rounded.
-fn less_penalty(support: Tenths, penalty: u64) -> Ratio
-    requires { ⌜ support .0 ≤ mostVolume ⌝ }
-    ensures { λ r. ⌜ (r ≡ lessPenalty (support .0) penalty) × (r .part ≤ mostPart) ⌝ }
-{
-    if support.0 == 0 {
-        if penalty == 0 {
-            return Ratio { part: 1, whole: 1 };
-        }
-        return Ratio { part: 0, whole: 1 };
-    }
-    let whole = 10 * support.0;
-    Ratio {
-        part: less(whole, penalty),
-        whole,
-    }
-}
-
-// k1 before it is rounded.
-fn exact_k1(control: Control, deductible: u32, support: Tenths) -> Ratio
-    requires { ⌜ (control .counted .0 ≤ mostWord * control .count) × (support .0 ≤ mostVolume) ⌝ }
-    ensures { λ r. ⌜ (r ≡ lessPenalty (support .0) (bandOf (thousandths (overOf control deductible) deductible) * overOf control deductible))
-        × (r .part ≤ mostPart) ⌝ }
-{
-    let over = average_less(control, Tenths::stated(deductible));
-    less_penalty(support, penalty(over.0 as u32, deductible))
 }
 
 // k4 before it is rounded.
@@ -99,14 +68,14 @@ fn millionths_of(r: Ratio) -> u64
     nearest(r.part * ONE, r.whole)
 }
 
-// k1 to k10 of a producer, by its stated figures and by k1 and k4 before they are rounded.
-fn ks_of(h: Header, x: Stated, k1: Ratio, k4: Ratio) -> [u64; 10]
-    requires { ⌜ (k1 .part ≤ mostPart) × (k4 .part ≤ mostPart) ⌝ }
+// k1 to k10 of a producer, by its stated figures, by k1, and by k4 before it is rounded.
+fn ks_of(h: Header, x: Stated, k1: u64, k4: Ratio) -> [u64; 10]
+    requires { ⌜ k4 .part ≤ mostPart ⌝ }
     ensures { λ r. ⌜ r ≡ ksFrom h x k1 k4 ⌝ }
 {
     let hours = 24 * (h.days as u32);
     [
-        millionths_of(k1),
+        k1,
         bids(hours, x.upward, x.downward),
         x.k3 as u64,
         millionths_of(k4),
@@ -153,8 +122,8 @@ fn terms_of(s: &[u8], layout: Layout, p: u8, v: Volumes, control: ControlDays) -
     let days = layout.header.days;
     let sums = k4_sums(hours, of.working, of.possible, days, summed);
     let outside = of.outside;
-    let counted = control_hours(hours, Hourly::Power(outside), days, control);
-    let k1 = exact_k1(counted, x.deductible, v.support);
+    let average = average_to_hundredth(hours, Hourly::Power(outside), days, control);
+    let k1 = k1_of(average, x.deductible, v.support);
     let ks = ks_of(layout.header, x, k1, exact_k4(sums));
     Terms { excess, ks }
 }

@@ -7,6 +7,7 @@ use lib.ListN.{length}
 use lib.Dec.{leb, ltb, eqb}
 use Rattle.rules.specs.Range.{any}
 use Rattle.rules.specs.Month.{Header, Consumer, Month, hours, withConsumers}
+use Rattle.rules.specs.Units.{tenth}
 use Rattle.rules.specs.ControlHours.{controlAverage}
 use Rattle.rules.specs.Sheet.{headerOf, layoutOf, withPeak}
 use Rattle.rules.specs.Refusals.{oneOf, tooHigh, Test, test, sheetTests, firstOf}
@@ -35,10 +36,10 @@ highRecord h r = oneOf (tooHigh (imported r) ∷ any (highAt r) (hours h) ∷ []
 unfoldable pub net : List ℕ → ℕ → ℕ
 net r hour = drawn r hour - sent r hour
 
--- The peak: the control average of net power, which is rounded, less imported power, not below 0. Without a control day the average is 0,
--- and so is the peak. [Control hours]
+-- The peak: the control average of net power, rounded to a tenth, less imported power, not below 0. Without a control day the average is 0,
+-- and so is the peak. [Control hours; Requests, 6]
 unfoldable pub complexPeak : Header → List ℕ → ℕ
-complexPeak h r = controlAverage h (net r) - imported r
+complexPeak h r = controlAverage tenth h (net r) - imported r
 
 -- 16, then 17, for a sheet with this header.
 unfoldable pub recordTests : Header → List ℕ → List Test

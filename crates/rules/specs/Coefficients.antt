@@ -2,7 +2,7 @@
 use Prim.Native.Nat.{ℕ, zero, suc, _-_, _*_, min, max}
 use mathlib.Core.List.{List, [], _∷_}
 use Rattle.rules.specs.Range.{sum}
-use Rattle.rules.specs.Units.{rounded, one}
+use Rattle.rules.specs.Units.{rounded, one, hundredth, inHundredths, inThousandths}
 use Rattle.rules.specs.Month.{Header, Producer, Month, hours}
 use Rattle.rules.specs.ControlHours.{controlAverage}
 use Rattle.rules.specs.Bands.{bandOf, thousandths}
@@ -23,19 +23,20 @@ ratio part whole = record { part = part; whole = whole }
 unfoldable pub millionthsOf : Ratio → ℕ
 millionthsOf r = share (r .part) (r .whole)
 
--- D of k1: the control average of outside use less deductible, not below 0. [Coefficients, k1; A2 p. 1]
+-- D of k1, in hundredths: the control average of outside use less deductible, not below 0. [Coefficients, k1; Requests, 6; A2 p. 1]
 unfoldable pub overuse : Header → Producer → ℕ
-overuse h p = controlAverage h (p .outsideUse) - p .deductible
+overuse h p = controlAverage hundredth h (p .outsideUse) - inHundredths (p .deductible)
 
--- n × D of k1: n is the band of D over deductible, in tenths, so the product is in hundredths of a megawatt. [Coefficients, k1; A2 p. 1]
+-- n × D of k1: n is the band of D over deductible, in tenths, so the product is in thousandths of a megawatt. [Coefficients, k1; Requests, 6;
+-- A2 p. 1]
 unfoldable pub penalty : Header → Producer → ℕ
-penalty h p = bandOf (thousandths (overuse h p) (p .deductible)) * overuse h p
+penalty h p = bandOf (thousandths (overuse h p) (inHundredths (p .deductible))) * overuse h p
 
 -- 1 - n × D / T, not below 0. Where T is 0: 1 when n × D is 0, otherwise 0. [Coefficients, k1; A2 p. 1]
 unfoldable pub lessPenalty : ℕ → ℕ → Ratio
 lessPenalty zero zero = ratio 1 1
 lessPenalty zero (suc penalty) = ratio 0 1
-lessPenalty (suc T) penalty = ratio (10 * suc T - penalty) (10 * suc T)
+lessPenalty (suc T) penalty = ratio (inThousandths (suc T) - penalty) (inThousandths (suc T))
 
 -- k1 before it is rounded: outside use beyond the deductible. [Coefficients, k1; A2 p. 1]
 unfoldable pub exactK1 : Header → Producer → ℕ → Ratio

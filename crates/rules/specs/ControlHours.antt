@@ -1,6 +1,6 @@
 -- Control hours: the evening hours of working days over which outside use is averaged. Days are counted from 0 here, day 1 of the month
 -- being 0, and hours run through the month.
-use Prim.Native.Nat.{ℕ, zero, suc, _+_, _/_, _%_, _^_}
+use Prim.Native.Nat.{ℕ, zero, suc, _+_, _*_, _/_, _%_, _^_}
 use mathlib.Core.Bool.{Bool, not, _&&_}
 use lib.Dec.{leb, eqb}
 use Rattle.rules.specs.Range.{sum, when}
@@ -49,6 +49,7 @@ unfoldable pub average : ℕ → ℕ → ℕ
 average total zero = 0
 average total (suc n) = rounded total (suc n)
 
--- The control average of a series, rounded to its unit; 0 in a month without a control day. [Control hours; A2 p. 1]
-unfoldable pub controlAverage : Header → (ℕ → ℕ) → ℕ
-controlAverage h series = average (controlSum h series) (controlCount h)
+-- The control average of a series of tenths, rounded to a tenth or a hundredth, in units of that fineness; 0 in a month without a control
+-- day. [Control hours; Requests, 6; A2 p. 1]
+unfoldable pub controlAverage : ℕ → Header → (ℕ → ℕ) → ℕ
+controlAverage fineness h series = average (fineness * controlSum h series) (controlCount h)

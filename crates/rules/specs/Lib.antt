@@ -35,3 +35,4 @@ pub mod TableCases
 pub mod AveragingCases
 pub mod Text2015Cases
 pub mod DaysCases
+pub mod HundredthsCases

@@ -1,6 +1,6 @@
 -- Names for sets of definitions: a proof that is to compute says `unfolding settlement` and so opens them all.
 use Rattle.rules.specs.Range.{sum, any, when, listed}
-use Rattle.rules.specs.Units.{rounded, inMillionths, toTenths, money}
+use Rattle.rules.specs.Units.{rounded, inHundredths, inThousandths, inMillionths, toTenths, money}
 use Rattle.rules.specs.ControlHours.{weekdayOn, controlWeekday, holidayOn, controlDay, controlHour, counted, controlSum, controlCount, average, controlAverage}
 use Rattle.rules.specs.ControlTable.{controlWeekdays, lineOf, says, tableDay, inTable}
 use Rattle.rules.specs.Bands.{bands, factorOf, bandOf, overNothing, partsOf, thousandths}
@@ -25,7 +25,7 @@ use Rattle.rules.specs.Samples.{month, wrong}
 
 -- From a month to its totals.
 unfoldable pub settlement : Unit {0}
-unfolding sum any when rounded inMillionths toTenths money weekdayOn controlWeekday holidayOn controlDay controlHour counted controlSum controlCount average controlAverage bands factorOf bandOf overNothing partsOf thousandths owns support bilateral ownVolume ownSupport ownBilateral supportVolume bilateralVolume summedCapacity excess leftToCut afterCut share millionthsOf overuse penalty lessPenalty exactK1 k1 k2 asked met exactK4 k4 k5 inOrder coefficients running daysCovered forDays through actual payment credited credit countedPeak overContract percentOf bracket mining volumeOf percent band volume charge totalPaid totalCharged month wrong
+unfolding sum any when rounded inHundredths inThousandths inMillionths toTenths money weekdayOn controlWeekday holidayOn controlDay controlHour counted controlSum controlCount average controlAverage bands factorOf bandOf overNothing partsOf thousandths owns support bilateral ownVolume ownSupport ownBilateral supportVolume bilateralVolume summedCapacity excess leftToCut afterCut share millionthsOf overuse penalty lessPenalty exactK1 k1 k2 asked met exactK4 k4 k5 inOrder coefficients running daysCovered forDays through actual payment credited credit countedPeak overContract percentOf bracket mining volumeOf percent band volume charge totalPaid totalCharged month wrong
 settlement = tt
 
 -- From a sheet's bytes to its month, its refusal, and the result's bytes.

@@ -2,7 +2,7 @@
 -- Figures are in the unit's whole numbers: tenths of a megawatt, thousandths for p, tenths for n, millionths for coefficients, tiyn.
 use Prim.Native.Nat.{ℕ}
 use mathlib.Core.List.{List, [], _∷_, _++_}
-use Rattle.rules.specs.Units.{one, millionthsCeiling}
+use Rattle.rules.specs.Units.{one, millionthsCeiling, tenth, hundredth}
 use Rattle.rules.specs.Month.{Month}
 use Rattle.rules.specs.ControlHours.{controlCount, controlAverage}
 use Rattle.rules.specs.Cut.{excess, afterCut, cutInOrder, ownRows}
@@ -20,8 +20,9 @@ unfoldable pub useMonth : ℕ → ℕ → ℕ → (ℕ → ℕ) → Month
 useMonth days weekday holidays outside =
     month days weekday holidays (producer 0 0 0 0 0 0 [] (every 0) (every 0) outside ∷ []) [] []
 
+-- Its average, rounded to a hundredth, as k1 takes it.
 abbrev averageUse : Month → ℕ
-averageUse m = controlAverage (m .header) (m .producer 0 .outsideUse)
+averageUse m = controlAverage hundredth (m .header) (m .producer 0 .outsideUse)
 
 abbrev controlHoursOf : Month → ℕ
 controlHoursOf m = controlCount (m .header)
@@ -36,14 +37,16 @@ controlHourFigures =
     ∷ figure (controlHoursOf (useMonth 31 6 9 (every 0))) 120
     -- 28 days from a Sunday with day 28, a Saturday, as a holiday (2^27): 4 weeks of 5 days
     ∷ figure (controlHoursOf (useMonth 28 7 134217728 (every 0))) 120
-    -- hours 16 and 23 do not count: 100.0 stays, though both read 900.0. With hour 23: (6 × 100 + 900) / 7 = 214.3
-    ∷ figure (averageUse (useMonth 30 1 0 (atHour 16 9000 (atHour 23 9000 (every 1000))))) 1000
+    -- hours 16 and 23 do not count: 100.0 stays, though both read 900.0. With hour 23: (6 × 100 + 900) / 7 = 214.29
+    ∷ figure (averageUse (useMonth 30 1 0 (atHour 16 9000 (atHour 23 9000 (every 1000))))) 10000
     -- hours 17 and 22 do: (400 + 4 × 100 + 250) / 6 = 175.0
-    ∷ figure (averageUse (useMonth 30 1 0 (atHour 17 4000 (atHour 22 2500 (every 1000))))) 1750
-    -- day 1 alone is read at 26.5, and is one of 22 control days: 26.5 / 22 = 1.2045, rounded 1.2
-    ∷ figure (averageUse (useMonth 30 1 0 (firstHours 24 265 (every 0)))) 12
-    -- half upward: three control hours of 100.1 and three of 100.0 make 100.05
-    ∷ figure (averageUse (useMonth 30 1 0 (atHour 17 1001 (atHour 18 1001 (atHour 19 1001 (every 1000)))))) 1001
+    ∷ figure (averageUse (useMonth 30 1 0 (atHour 17 4000 (atHour 22 2500 (every 1000))))) 17500
+    -- day 1 alone is read at 26.5, and is one of 22 control days: 26.5 / 22 = 1.2045, rounded 1.20
+    ∷ figure (averageUse (useMonth 30 1 0 (firstHours 24 265 (every 0)))) 120
+    -- half upward: 28 days from a Monday have 20 control days; 100.1 on one of them and 100.0 on the rest make 100.005
+    ∷ figure (averageUse (useMonth 28 1 0 (firstHours 24 1001 (every 1000)))) 10001
+    -- rounded to a tenth, as a complex's average is: three control hours of 100.1 and three of 100.0 make 100.05, half upward
+    ∷ figure (controlAverage tenth (useMonth 30 1 0 (every 0) .header) (atHour 17 1001 (atHour 18 1001 (atHour 19 1001 (every 1000))))) 1001
     -- no control day: all 30 days are holidays (2^30 - 1), average 0
     ∷ figure (averageUse (useMonth 30 1 1073741823 (every 9000))) 0
     ∷ []
@@ -171,12 +174,13 @@ cutMonth attested deductible ownNeeds =
     (row 0 255 600 0 ∷ row 1 255 700 0 ∷ row 0 0 400 0 ∷ row 0 255 200 0 ∷ [])
     (consumer 0 0 0 0 10 0 ∷ [])
 
--- Outside use of 11.9 in hours 17 to 19 and 12.0 in hours 20 to 22: on average 11.95, rounded 12.0. Hour 0 does not count.
+-- Outside use of 11.7 in hour 17 of the first day and 12.0 in the other 131 control hours: on average 12 - 0.3 / 132 = 11.9977, rounded
+-- 12.00. Hour 0 does not count.
 abbrev mixedUse : ℕ → ℕ
-mixedUse = atHour 0 9000 (atHour 17 119 (atHour 18 119 (atHour 19 119 (every 120))))
+mixedUse = atHour 0 9000 (firstHours 18 117 (every 120))
 
 -- A producer with that use and attested capacity; T 100.0, B 50.0, deductible 10.0, so S is 160.0; possible power 200.0, working
--- power 120.0. D is 2.0, p 200, n 1.3: k1 = 1 - 1.3 × 2 / 100 = 0.974. k4 = 120 / 160 = 0.75.
+-- power 120.0. D is 2.00, p 200, n 1.3: k1 = 1 - 1.3 × 2 / 100 = 0.974. k4 = 120 / 160 = 0.75.
 unfoldable pub soldMonth : ℕ → Month
 soldMonth attested =
     month 30 1 0
@@ -220,7 +224,7 @@ rowFigures =
     -- deductible 10.0 adds to the excess, own needs 30.0 take from it: 130 - 30 - 70 = 30.0; own needs above S: nothing is cut
     ∷ figure (afterCut (cutMonth 700 100 300) 0) 300
     ∷ figure (afterCut (cutMonth 0 100 1400) 0) 600
-    -- D from the rounded average: from 11.95 k1 would be 1 - 1.3 × 1.95 / 100 = 0.97465
+    -- D from the rounded average: from 11.9977 k1 would be 1 - 1.3 × 1.9977 / 100 = 0.97403
     ∷ figure (k1 (soldMonth 1600)) 974000
     -- k1 and k4 count in rows of both kinds: 100 × 0.974 × 0.75 = 73.05, half upward; 50 × 0.974 × 0.75 = 36.525
     ∷ figure (actual (soldMonth 1600) 0) 731

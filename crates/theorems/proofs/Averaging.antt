@@ -5,7 +5,7 @@ use mathlib.Core.Bool.{Bool, true, false, cond}
 use mathlib.Core.Logic.{_⊎_, inl, inr}
 use mathlib.Core.List.{List}
 use Prim.Native.Nat.{ℕ, zero, suc, zero-le, _+_, _-_, _*_, _^_, _≤_, _<_}
-use native.Mathlib.Nat.{le-refl, add-zero}
+use native.Mathlib.Nat.{le-refl, add-zero, mul-le-mul-left}
 use native.Mathlib.Omega.{arith}
 use borrow.Author.Tests.{eqb-true, eqb-false, eq-eqb, ne-eqb}
 use lib.Dec.{eqb}
@@ -14,7 +14,7 @@ use Rattle.rules.specs.declared.Header.{Header}
 use Rattle.rules.specs.declared.Consumer.{Consumer}
 use Rattle.rules.specs.Range.{sum, when}
 use Rattle.rules.specs.Month.{Producer, Month, hours, withConsumers}
-use Rattle.rules.specs.Units.{tenthsCeiling}
+use Rattle.rules.specs.Units.{tenth, tenthsCeiling}
 use Rattle.rules.specs.Limits.{ConsumerLimits, FormLimits, MonthLimits}
 use Rattle.rules.specs.ControlHours.{controlHour, counted, controlSum, controlCount, controlAverage}
 use Rattle.rules.specs.Cut.{owns, support, bilateral, ownVolume, ownSupport, ownBilateral, supportVolume, bilateralVolume, summedCapacity, excess, leftToCut, afterCut}
@@ -57,15 +57,17 @@ module _ (m : Month) (k : ℕ → Consumer) where
   unfolding totalPaid afterCut leftToCut excess summedCapacity supportVolume bilateralVolume ownSupport ownBilateral ownVolume owns support bilateral coefficients actual payment
   paid-kept = refl
 
--- The control average of figures up to a ceiling is not above it.
+-- The control average of figures up to a ceiling is not above it, rounded to whatever.
 sum-times : (f g : ℕ → ℕ) (k n : ℕ) → ((i : ℕ) → i < n → f i ≤ k * g i) → sum f n ≤ k * sum g n
 unfolding sum
 sum-times f g k zero h = zero-le
 sum-times f g k (suc n) h = omega (arith, sum-times f g k n (λ i l. h i (omega arith)), h n (omega arith))
 
-average-at-most : (h : Header) (f : ℕ → ℕ) (most : ℕ) → ((i : ℕ) → i < hours h → f i ≤ most) → controlAverage h f ≤ most
+average-at-most : (fineness : ℕ) (h : Header) (f : ℕ → ℕ) (most : ℕ) → ((i : ℕ) → i < hours h → f i ≤ most)
+    → controlAverage fineness h f ≤ fineness * most
 unfolding controlAverage
-average-at-most h f most low = rw average-is (rounded-at-most most (controlCount h) sums)
+average-at-most fineness h f most low =
+    rw average-is (rounded-at-most (fineness * most) (controlCount h) (omega (arith, mul-le-mul-left fineness sums)))
   where
     times : (b : Bool) (v : ℕ) → v ≤ most → when b v ≤ most * when b 1
     times true v l = unfold when in omega (arith, l)
@@ -194,7 +196,7 @@ module _ (s r : List ℕ) where
 
     pub peak-most : complexPeak (headerOf s) r ≤ tenthsCeiling
     unfolding complexPeak net
-    peak-most = omega (arith, average-at-most (headerOf s) (λ i. drawn r i - sent r i) tenthsCeiling (λ i l. omega (arith, low .drawn i l)))
+    peak-most = omega (arith, average-at-most tenth (headerOf s) (λ i. drawn r i - sent r i) tenthsCeiling (λ i l. omega (arith, low .drawn i l)))
 
     long : length new ≡ length s
     long = as-long s form (complex r) (complexPeak (headerOf s) r) (whole .complex)
@@ -284,7 +286,7 @@ module _ (s : List ℕ) where
     peak-up : complexPeak (headerOf s) r ≤ complexPeak (headerOf s) r′
     unfolding complexPeak net
     peak-up =
-        let up = control-average-mono (headerOf s) (λ i. drawn r i - sent r i) (λ i. drawn r′ i - sent r′ i) (λ i l. omega (arith, higher .drawn i l, higher .sent i l)) in
+        let up = control-average-mono tenth (headerOf s) (λ i. drawn r i - sent r i) (λ i. drawn r′ i - sent r′ i) (λ i l. omega (arith, higher .drawn i l, higher .sent i l)) in
         omega (arith, up, higher .imported)
 
     worse : Worse (month s r) (withPeakOf (monthOf s) (complex r) (complexPeak (headerOf s) r′))

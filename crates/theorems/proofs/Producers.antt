@@ -1,11 +1,11 @@
 -- A worse producer, with the same T and S, has no higher coefficient. Assumes nothing.
-use mathlib.Core.Path.{_≡_, refl, sym}
+use mathlib.Core.Path.{_≡_, refl, sym, ap}
 use mathlib.Core.List.{List, [], _∷_}
 use Prim.Native.Nat.{ℕ, zero, suc, zero-le, _*_, _≤_, _<_}
-use native.Mathlib.Nat.{le-refl, not-suc-le-zero, mul-le-mul, mul-le-mul-right}
+use native.Mathlib.Nat.{le-refl, not-suc-le-zero, mul-le-mul, mul-le-mul-left, mul-le-mul-right}
 use native.Mathlib.Omega.{arith}
 use Rattle.rules.specs.Range.{sum}
-use Rattle.rules.specs.Units.{one}
+use Rattle.rules.specs.Units.{one, hundredth, inHundredths, inThousandths}
 use Rattle.rules.specs.declared.Header.{Header}
 use Rattle.rules.specs.Month.{Producer, hours}
 use Rattle.rules.specs.ControlHours.{controlHour, counted, controlSum, controlCount, average, controlAverage}
@@ -27,17 +27,18 @@ penalty-down zero zero zero h = le-refl (share 1 1)
 penalty-down zero zero (suc y) h = share-mono 1 zero-le
 penalty-down zero (suc x) zero h = absurd (not-suc-le-zero h)
 penalty-down zero (suc x) (suc y) h = le-refl (share 0 1)
-penalty-down (suc T) x y h = share-mono (10 * suc T) (omega arith)
+penalty-down (suc T) x y h = share-mono (inThousandths (suc T)) (omega arith)
 
 average-mono : (n : ℕ) {x y : ℕ} → x ≤ y → average x n ≤ average y n
 unfolding average
 average-mono zero h = zero-le
 average-mono (suc n) h = rounded-mono (suc n) h
 
--- A series that is nowhere lower has no lower control average.
-pub control-average-mono : (h : Header) (f g : ℕ → ℕ) → ((i : ℕ) → i < hours h → f i ≤ g i) → controlAverage h f ≤ controlAverage h g
+-- A series that is nowhere lower has no lower control average, rounded to whatever.
+pub control-average-mono : (fineness : ℕ) (h : Header) (f g : ℕ → ℕ) → ((i : ℕ) → i < hours h → f i ≤ g i)
+    → controlAverage fineness h f ≤ controlAverage fineness h g
 unfolding controlAverage
-control-average-mono h f g up = average-mono (controlCount h) (sums-up)
+control-average-mono fineness h f g up = average-mono (controlCount h) (mul-le-mul-left fineness sums-up)
   where
     sums-up : controlSum h f ≤ controlSum h g
     sums-up = unfold controlSum counted in sum-mono _ _ refl (λ i l. when-mono (controlHour h i) (up i l))
@@ -50,10 +51,10 @@ pub data NoMore : List ℕ → List ℕ → Type 0 where
 module _ (h : Header) (p p′ : Producer) (w : WorseProducer (hours h) p p′) where
   k1-down : (T : ℕ) → k1 h p′ T ≤ k1 h p T
   unfolding k1 exactK1 penalty
-  k1-down T = penalty-down T _ _ (mul-le-mul (band-mono (thousandths-mono (sym (w .deductible)) overuse-up)) overuse-up)
+  k1-down T = penalty-down T _ _ (mul-le-mul (band-mono (thousandths-mono (ap inHundredths (sym (w .deductible))) overuse-up)) overuse-up)
     where
       overuse-up : overuse h p ≤ overuse h p′
-      overuse-up = unfold overuse in omega (arith, w .deductible, control-average-mono h (p .outsideUse) (p′ .outsideUse) (w .outsideUse))
+      overuse-up = unfold overuse in omega (arith, ap inHundredths (w .deductible), control-average-mono hundredth h (p .outsideUse) (p′ .outsideUse) (w .outsideUse))
 
   k2-down : k2 h p′ ≤ k2 h p
   unfolding k2

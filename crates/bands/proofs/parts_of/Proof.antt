@@ -1,10 +1,8 @@
 use mathlib.Core.Path.{sym, _∙_}
-use native.Mathlib.Nat.{pos-of-ne-zero}
-use native.Mathlib.Omega.{arith}
+use native.Mathlib.Nat.{pos-of-ne-zero, mul-one}
 use borrow.Author.Needs.{needs}
 use Rattle.rules.specs.Bands.{overNothing, partsOf}
-use Rattle.units.proofs.Pricing.{halves-fit}
-use Rattle.bands.proofs.Divisors.{parts-of, over-nothing}
+use Rattle.laws.proofs.Bands.{parts-of, over-nothing}
 use Rattle.bands.proofs.parts_of.Statement.{statement}
 use Rattle.bands.proofs.parts_of.Tie as tie
 
@@ -15,15 +13,11 @@ returns c = rw (c .before .if1 .taken, c .if2 .taken)
 returns-2 : tie.Need-returns-2
 returns-2 c = rw (c .before .if1 .taken) (sym (over-nothing _ _ _ (pos-of-ne-zero (c .if2 .left))))
 
-mul-nearest : tie.Need-mul-nearest
-mul-nearest c =
-    omega (arith, halves-fit (c .before .args .excess) (c .before .args .whole) (omega arith) (omega arith))
-
 nearest-requires : tie.Need-nearest-requires
 nearest-requires c κs = search needs
 
 returns-3 : tie.Need-returns-3
-returns-3 c = c .nearest .ensures ∙ sym (parts-of _ _ _ _ (pos-of-ne-zero (c .before .if1 .left)))
+returns-3 c = c .nearest .ensures ∙ sym (parts-of 1 _ _ _ (pos-of-ne-zero (c .before .if1 .left)) ∙ rw mul-one)
 
 pub parts-of-spec : {M : Type 1} → statement M
-parts-of-spec = tie.close (tie.spec returns returns-2 mul-nearest nearest-requires returns-3)
+parts-of-spec = tie.close (tie.spec returns returns-2 nearest-requires returns-3)

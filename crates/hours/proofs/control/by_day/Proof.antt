@@ -54,7 +54,7 @@ returns c =
     let l = c .before .loop in
     let a = c .before .before .before in
     let end : l .day ≡ a .args .days = omega arith in
-    (all-days _ _ (rw end at (l .inv .0)), l .inv .0 .fits)
+    (all-days _ _ (rw end at (l .inv .0)), l .inv .0 .fits, omega (arith, l .inv .0 .few))
 
 pub by-day-spec : {M : Type 1} → statement M
 by-day-spec =

@@ -1,0 +1,18 @@
+use native.Mathlib.Omega.{arith}
+use native.Mathlib.Nat.{mul-le-mul}
+use Rattle.laws.proofs.Coefficients.{average-is}
+use borrow.Author.Needs.{needs}
+use Rattle.hours.proofs.control.average_of.Statement.{statement}
+use Rattle.hours.proofs.control.average_of.Tie as tie
+
+mul-nearest : tie.Need-mul-nearest
+mul-nearest c = ?
+
+nearest-requires : tie.Need-nearest-requires
+nearest-requires c κs = search needs
+
+returns : tie.Need-returns
+returns c = rw (c .nearest .ensures, average-is)
+
+pub average-of-spec : {M : Type 1} → statement M
+average-of-spec = tie.close (tie.spec mul-nearest nearest-requires returns)
