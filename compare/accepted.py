@@ -324,12 +324,12 @@ def both_bids_missing(rng):
 
 def use_in_hour_23(rng):
     """Outside use is high only from 23:00 to 24:00, or in every hour but that one."""
-    month = draw_month(rng, with_control_day=True)
+    month = draw_month(rng, control_days=1)
     producer = full_producer(month)
     producer.deductible = rng.randrange(1000, 10_000)
-    usual, late = rng.choice(((0.5, 9), (1.3, 0)))
-    day = [int(producer.deductible * usual)] * 23 + [capacity(producer.deductible * late)]
-    producer.outside = array("I", day) * month.days
+    low, high, late = rng.choice(((0.4, 0.6, 9), (1.2, 1.4, 0)))
+    producer.outside = spread(rng, month, int(producer.deductible * low), int(producer.deductible * high))
+    producer.outside[23::24] = array("I", [capacity(producer.deductible * late)]) * month.days
     return one_row_sheet(rng, month, producer, rng.randrange(50_000, TOP_CAPACITY))
 
 
