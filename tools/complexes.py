@@ -13,7 +13,7 @@ from monthtext import MOST_LINES, Faults, at, check_head, csv_figures, csv_text,
 from names import NO_NAMES
 from printing import table_lines
 from records import (CAPACITY, COMPLEX_FIELDS, COMPLEX_FRONT, COMPLEX_HOUR, COMPLEX_HOUR_FIELDS, COMPLEX_HOUR_PACKING,
-                     COMPLEX_PACKING, TOP_CAPACITY, complex_length)
+                     COMPLEX_PACKING, TENTH, TOP_CAPACITY, complex_length)
 from refusals import BAD_RECORD, HIGH_POWER, TRIED_IN_RECORD, field_places
 
 FRONT_PLACES = field_places(COMPLEX_FIELDS)
@@ -31,8 +31,8 @@ class Complex(NamedTuple):
     hours: list      # power drawn and power sent out in each
 
     def average(self, month):
-        """Net power over the control hours; in no hour it is below 0."""
-        return month.control_average([max(drawn - sent, 0) for drawn, sent in self.hours])
+        """Net power over the control hours, to a tenth; in no hour it is below 0."""
+        return month.control_average([max(drawn - sent, 0) for drawn, sent in self.hours], TENTH)
 
     def peak(self, month):
         return max(self.average(month) - self.imported, 0)

@@ -1,12 +1,13 @@
 """A sheet as tables for people."""
 from names import NO_NAMES, width
-from records import (CAPACITY, CONSUMER_FIELDS, HEADER, HEADER_FIELDS, PRODUCER_FIELDS, SINGLE_BUYER,
-                     SINGLE_BUYER_WORDS, Header, Sheet, row_fields)
+from records import (CAPACITY, CONSUMER_FIELDS, HEADER, HEADER_FIELDS, HUNDREDTH, OUTSIDE_USE, PRODUCER_FIELDS,
+                     SINGLE_BUYER, SINGLE_BUYER_WORDS, Z, Header, Sheet, row_fields)
+from results import BANDS
 
 WEEKDAYS = ("Monday", "Tuesday", "Wednesday", "Thursday", "Friday", "Saturday", "Sunday")
 PRODUCER_HEADS = ("producer", "attested", "deductible", "own needs", "no upward bid", "no downward bid", "no plan",
                   "k3", "k6", "k7", "k8", "k9", "k10")
-HOUR_HEADS = ("producer", "working", "possible", "outside", "control hours", "control average")
+HOUR_HEADS = ("producer", "working", "possible", "outside", "control hours", "control average", "D", "percent", "n")
 CONSUMER_HEADS = ("consumer", "contract", "peak", "supplier's days", "grid's days", "z", "price")
 
 # ------------------------------------------------------------------ tables
@@ -36,7 +37,7 @@ def sheet_lines(content, names=NO_NAMES):
     header, sheet = Header.from_bytes(content), Sheet.from_bytes(content)
     of_row = row_fields(header.version)
     hours = (f"Hours, the powers of {header.month.hours} hours summed, in MWh; "
-             "outside use averaged over control hours, in MW")
+             "outside use averaged over control hours, and D of k1, in MW; percent and n")
     for title, heads, records, kind, cells_of in (
         ("Producers, in MW; counts of hours; coefficients", PRODUCER_HEADS, sheet.producers, "producer",
          lambda producer: cells(PRODUCER_FIELDS, producer)),
@@ -84,9 +85,17 @@ def party_cells(row, names):
 
 
 def hour_cells(producer, month):
-    """The sums of a producer's powers, and the control average of its outside use."""
+    """The sums of a producer's powers, and what k1 takes from its outside use."""
     return [*(CAPACITY.text(sum(powers)) for powers in producer.powers()), str(len(month.control_hours())),
-            CAPACITY.text(month.control_average(producer.outside))]
+            *use_cells(producer, month)]
+
+
+def use_cells(producer, month):
+    """The control average of outside use, D, D in percent of deductible capacity, n."""
+    average, deductible = month.control_average(producer.outside, HUNDREDTH), HUNDREDTH * producer.deductible
+    above = max(average - deductible, 0)
+    p = BANDS.parts(above, deductible)
+    return [OUTSIDE_USE.text(average), OUTSIDE_USE.text(above), Z.text(p), Z.text(BANDS.factor(p))]
 
 
 def end_lines(content, header):

@@ -3,8 +3,8 @@ the figures of a result.
 
 Layout and limits are those of document 01: "Units and the sheet", "Result" and "When a sheet is turned down"; of a
 list, of a complex, of a result under the text of 2015 and of a sheet of version 2 those of requests 1, 3, 4 and 5 of
-document 02. Capacities, powers, volumes, peaks and amounts are in tenths of a megawatt, prices in tiyn, coefficients in
-millionths.
+document 02; the fineness of the control average is that of request 6. Capacities, powers, volumes, peaks and amounts
+are in tenths of a megawatt, prices in tiyn, coefficients in millionths.
 """
 import struct
 import sys
@@ -25,6 +25,9 @@ VERSIONS = FULL_ROWS, DAY_ROWS = 1, 2    # rows of version 1 cover the month, th
 RESULT_VERSION = 1    # under every version of the sheet
 LIST_VERSION = 1
 CONTROL_HOURS = range(17, 23)    # of a control day
+# What a control average is rounded to, told by how many of it are a tenth of a megawatt.
+TENTH = 1         # of net power, for a complex's peak
+HUNDREDTH = 10    # of outside use, for k1
 
 
 def rounded(figure, divisor):
@@ -50,6 +53,7 @@ class Unit(NamedTuple):
 
 
 CAPACITY = Unit("capacity", 1, "MW")
+OUTSIDE_USE = Unit("outside use in k1", 2, "MW")    # averaged, in hundredths
 PRICE = Unit("price", 2, "tenge")
 COEFFICIENT = Unit("coefficient", 6)
 HOURS = Unit("count of hours", 0, "hours")
@@ -201,10 +205,11 @@ class Month(NamedTuple):
                 found.extend(24 * day + hour for hour in CONTROL_HOURS)
         return found
 
-    def control_average(self, powers):
-        """The average of hourly powers over the control hours, to a tenth and a half upward; 0 if there is none."""
+    def control_average(self, powers, fineness=TENTH):
+        """The average of hourly powers over the control hours, in units of this fineness, a half upward; 0 if there is
+        no such hour."""
         control = self.control_hours()
-        return rounded(sum(powers[hour] for hour in control), len(control)) if control else 0
+        return rounded(fineness * sum(powers[hour] for hour in control), len(control)) if control else 0
 
 
 class Header(NamedTuple):

@@ -5,8 +5,8 @@
   tools/stored_sheets.py          writes crates/listings/data/*, crates/settle/stdin and crates/settle_2015/stdin
   tools/stored_sheets.py RIVAL    also writes the stdout of these three, as the rival program RIVAL lists the sheets
 
-Every figure stands below: capacities and volumes in tenths of a megawatt, prices in tiyn per megawatt and month,
-coefficients in millionths. Nothing is random, so each run writes the same bytes.
+Every figure stands below, save those of an example month: capacities and volumes in tenths of a megawatt, prices in
+tiyn per megawatt and month, coefficients in millionths. Nothing is random, so each run writes the same bytes.
 """
 import subprocess
 import sys
@@ -17,7 +17,8 @@ sys.dont_write_bytecode = True
 
 from records import DAY_ROWS, FULL_ROWS, ONE, SINGLE_BUYER, Consumer, Month, Producer, Row, Sheet
 
-CRATES = Path(__file__).resolve().parent.parent / "crates"
+ROOT = Path(__file__).resolve().parent.parent
+CRATES = ROOT / "crates"
 IDLE = [(0, 0, 0)] * (24 * 28)    # hours of 28 days
 
 
@@ -133,6 +134,7 @@ def refused_18():
 STORED = {
     "month": month(),
     "inside_month": inside_month(),
+    "small_deductible": (ROOT / "examples/small-deductible.sheet").read_bytes(),
     "zeros": zeros(),
     "largest": largest(),
     "header": sheet(28, 1),

@@ -1,9 +1,5 @@
 """check, new, and the names in what explain and show say."""
-import random
-from array import array
-
 import monthtext
-import records
 import refusals
 from checks import EXAMPLES, SHEET, check, files_in, run, sheet, turned_down, words_of
 from texts import CONSTANT, CSV, GOOD, ROW, changed
@@ -186,29 +182,15 @@ def test_named():
     lines = done.stdout.decode().splitlines()
     for line in ("0 Northern plant     110.0        10.0        1.5             12                0        0  "
                  "1.0  0.985  1.0  1.0  1.0  1.0",
-                 "0 Northern plant  80352.0   81840.0   7440.0            120             10.0",
+                 "0 Northern plant  80352.0   81840.0   7440.0            120            10.00  0.00      0.0  0.0",
                  "  1  0 Northern plant  1 Rolling mill    20.0  590000.00"):
         check(line in lines, f"show: {line}", words_of(done))
-    title = "Hours, the powers of 744 hours summed, in MWh; outside use averaged over control hours, in MW"
-    check(title in lines, "show: the sums are MWh", words_of(done))
+    title = ("Hours, the powers of 744 hours summed, in MWh; outside use averaged over control hours, and D of k1, in "
+             "MW; percent and n")
+    check(title in lines, "show: the units of the hours", words_of(done))
     done = sheet("explain", EXAMPLES / "refused-9.toml")
     check(done.stdout.decode().splitlines()[1].startswith("producer 0, hour 431 (day 18, 23:00), possible power, "),
           "explain: a text", words_of(done))
-
-
-def test_averages():
-    """The control average that show prints is that of the control hours, a half upward."""
-    rng = random.Random(20211022)
-    for weekday, holidays, count in ((1, 0, 120), (6, 2 ** 28 - 1, 0), (7, 0b10, 114), (3, 1 << 3, 120)):
-        month = records.Month(28, weekday, holidays)
-        powers = [array("I", (rng.randrange(3000) for _ in range(month.hours))) for _ in range(3)]
-        control = [power for hour, power in enumerate(powers[2])
-                   if 17 <= hour % 24 <= 22 and (weekday - 1 + hour // 24) % 7 < 5 and not holidays >> hour // 24 & 1]
-        average = int(sum(control) / count + 0.5) if count else 0
-        content = records.Sheet(month, [records.Producer(1, 1, 1, [0] * 3, [0] * 6, *powers)], [], []).to_bytes()
-        line = sheet("show", "-", stdin=content).stdout.decode().splitlines()[-1].split()
-        check(len(control) == count and line[-2:] == [str(count), f"{average // 10}.{average % 10}"],
-              f"show: control hours and average from weekday {weekday}", str(line))
 
 
 def test_order():

@@ -93,7 +93,7 @@ def test_result(name, source, listing, folder):
 def test_show_and_explain():
     for name, lines in {
         "month.sheet": ["holidays            day 1, day 16, day 17", " 26         3             0     5.0  568000.00",
-                        "       0  305853.6  307267.2  16437.0            120             28.1",
+                        "       0  305853.6  307267.2  16437.0            120            28.09  3.09     12.4  1.3",
                         "row  producer      consumer  volume      price"],
         "inside-month.sheet": ["version             2",
                                "row  producer      consumer  volume      price  first day  last day",

@@ -11,15 +11,14 @@ use Rattle.rules.specs.declared.Series.{Series}
 use Rattle.rules.specs.Range.{listed}
 use Rattle.rules.specs.Month.{hours}
 use Rattle.rules.specs.Sheet.{power}
-use Rattle.rules.specs.ControlHours.{average, controlAverage}
+use Rattle.rules.specs.Units.{tenth}
 use Rattle.rules.specs.ControlTable.{tableDay}
 use Rattle.rules.specs.ComplexRecord.{recordWidth, imported, drawnSeries, sentSeries, drawn, sent}
 use Rattle.rules.specs.Averaging.{net, complexPeak}
 use Rattle.laws.proofs.Fields.{read-drop}
-use Rattle.hours.specs.declared.control.Control.{Control}
 use Rattle.hours.specs.Series.{stands, powerIn, hourlyStands, hourlyIn}
-use Rattle.hours.proofs.Known.{control-known}
-use Rattle.complex_record.specs.Net.{netPower, netControl}
+use Rattle.hours.proofs.Known.{average-known}
+use Rattle.complex_record.specs.Net.{netPower, netAverage}
 
 module _ (h : Header) (r : List ℕ) (long : recordWidth h ≤ length r) where
   -- A series stands in the hours, and is read there.
@@ -43,7 +42,7 @@ module _ (h : Header) (r : List ℕ) (long : recordWidth h ≤ length r) where
 
   -- In a month that the table has.
   module _ (few : h .days ≤ 31) (from : 1 ≤ h .weekday) (to : h .weekday ≤ 7) {on : List Bool} (days : on ≡ listed (tableDay h) 256) where
-    pub peak-known : {c : Control} {taken peak : ℕ} → c ≡ netControl r (h .days) on → taken ≡ imported r → peak ≡ average (c .counted .0) (c .count) - taken
+    pub peak-known : {average taken peak : ℕ} → average ≡ netAverage r (h .days) on → taken ≡ imported r → peak ≡ average - taken
         → peak ≡ complexPeak h r
-    unfolding complexPeak controlAverage
-    peak-known counted less is = rw (is, counted, less, control-known h few from to days (drop 9 r) netPower (net r) both-stand net-read)
+    unfolding complexPeak
+    peak-known averaged less is = rw (is, averaged, less, average-known h few from to days (drop 9 r) netPower (net r) both-stand net-read tenth)

@@ -2,7 +2,7 @@
 use mathlib.Core.Path.{_≡_, refl, sym, ap, _∙_}
 use mathlib.Core.List.{List, [], _∷_}
 use Prim.Native.Nat.{ℕ, zero, suc, zero-le, _-_, _*_, _≤_, _<_}
-use native.Mathlib.Nat.{le-refl, sub-le}
+use native.Mathlib.Nat.{le-refl, sub-le, mul-le-mul-left}
 use native.Mathlib.Omega.{arith}
 use Rattle.rules.specs.Units.{rounded, one, inThousandths}
 use Rattle.rules.specs.ControlHours.{average}
@@ -19,6 +19,10 @@ pub average-is : (total n : ℕ) → average total n ≡ rounded total n
 unfolding average
 average-is total zero = sym (rounded-over-0 total)
 average-is total (suc n) = refl
+
+-- An average is not above what none of its figures is above, in units of any fineness.
+pub average-at-most : (fineness most n : ℕ) {total : ℕ} → total ≤ most * n → average (fineness * total) n ≤ fineness * most
+average-at-most fineness most n l = rw average-is (rounded-at-most (fineness * most) n (omega (arith, mul-le-mul-left fineness l)))
 
 pub share-some : (part whole : ℕ) → 0 < whole → share part whole ≡ rounded (part * one) whole
 unfolding share

@@ -16,6 +16,7 @@ fn list_file(name: &[u8]) {
 fn main() {
     list_file(b"month");
     list_file(b"inside_month");
+    list_file(b"small_deductible");
     list_file(b"zeros");
     list_file(b"largest");
     list_file(b"header");

@@ -12,7 +12,7 @@ use Rattle.rules.specs.Month.{Month}
 use Rattle.rules.specs.Sheet.{producerAt, sheetLength, statedOf, producerUnder, monthUnder}
 use Rattle.rules.specs.Limits.{HeaderLimits}
 use Rattle.rules.specs.Cut.{ownVolume, supportVolume, summedCapacity, excess, leftToCut}
-use Rattle.rules.specs.Coefficients.{exactK1, exactK4, k1, k2, k4, k5, inOrder, coefficients}
+use Rattle.rules.specs.Coefficients.{exactK4, k1, k2, k4, k5, inOrder, coefficients}
 use Rattle.rules.specs.Range.{listed}
 use Rattle.laws.proofs.Range.{sum-none}
 use Rattle.laws.proofs.Arrays.{Agrees, listed-agrees}
@@ -27,13 +27,13 @@ pub summed-is : (m : Month) (p : ℕ) (v : Volumes) (d : ℕ) → v ≡ volumesO
 unfolding summedCapacity
 summed-is m p v d e q = rw (e, q)
 
--- k1 to k10 from a producer's stated figures, and from k1 and k4 before they are rounded.
-pub ks-known : (l : Layout) (s : List ℕ) (p : ℕ) {x : Stated} {first fourth : Ratio}
+-- k1 to k10 from a producer's stated figures, from k1, and from k4 before it is rounded.
+pub ks-known : (l : Layout) (s : List ℕ) (p : ℕ) {x : Stated} {first : ℕ} {fourth : Ratio}
     → x ≡ statedOf s (producerAt l p)
-    → first ≡ exactK1 (l .header) (producerUnder l s p) (supportVolume (monthUnder l s) p)
+    → first ≡ k1 (l .header) (producerUnder l s p) (supportVolume (monthUnder l s) p)
     → fourth ≡ exactK4 (l .header) (producerUnder l s p) (summedCapacity (monthUnder l s) p)
     → ksFrom (l .header) x first fourth ≡ coefficients (monthUnder l s) p
-unfolding coefficients inOrder k1 k2 k4 k5
+unfolding coefficients inOrder k2 k4 k5
 ks-known l s p stated first fourth = rw (stated, first, fourth)
 
 -- An array with the volumes of six producers, which fit.

@@ -1,4 +1,4 @@
--- k1 and k4 of a producer, from the sums over the stretch of its hours. Assumes nothing.
+-- k1 and k4 of a producer, from the control average and the sums over the stretch of its hours. Assumes nothing.
 use mathlib.Core.Path.{_≡_, refl, ap, ap₂, _∙_}
 use mathlib.Core.Bool.{Bool, true}
 use mathlib.Core.List.{List}
@@ -14,23 +14,21 @@ use Rattle.rules.specs.Range.{listed}
 use Rattle.rules.specs.Month.{hours}
 use Rattle.rules.specs.Sheet.{hoursWidth, hoursAt, producerAt, statedOf, power, hourSeries, producerUnder}
 use Rattle.rules.specs.Outcome.{within}
-use Rattle.rules.specs.ControlHours.{controlSum, controlCount, controlAverage}
+use Rattle.rules.specs.Units.{hundredth}
+use Rattle.rules.specs.ControlHours.{controlAverage}
 use Rattle.rules.specs.ControlTable.{tableDay}
-use Rattle.rules.specs.Bands.{bandOf, thousandths}
-use Rattle.rules.specs.Coefficients.{ratio, overuse, penalty, lessPenalty, asked, met, exactK1, exactK4}
+use Rattle.rules.specs.Coefficients.{ratio, millionthsOf, overuse, penalty, lessPenalty, asked, met, exactK1, exactK4, k1}
 use Rattle.laws.proofs.Range.{sum-same}
 use Rattle.laws.proofs.Fields.{read-part}
-use Rattle.units.specs.Sums.{tenths}
 use Rattle.sheet.specs.Whole.{stretchIn}
 use Rattle.sheet.proofs.Whole.{stretch-whole}
 use Rattle.hours.specs.declared.k4.K4.{K4}
-use Rattle.hours.specs.declared.control.Control.{Control}
 use Rattle.hours.specs.declared.series.Hourly.{Hourly}
 use Rattle.hours.specs.Series.{stands, powerIn, hourlyStands}
 use Rattle.hours.specs.Sums.{k4In}
-use Rattle.hours.specs.Control.{controlIn}
-use Rattle.hours.proofs.Known.{control-known}
-use Rattle.producers.specs.Terms.{overOf}
+use Rattle.hours.specs.Control.{averageIn}
+use Rattle.hours.proofs.Known.{average-known}
+use Rattle.producers.specs.Terms.{penaltyOf}
 
 module _ (l : Layout) (s : List ℕ) (p : ℕ) (fits : hoursAt l p + hoursWidth (l .header) ≤ length s) {part : List ℕ} (lent : part ≡ within (stretchIn l (length s) p) s) where
   there : part ≡ take (hoursWidth (l .header)) (drop (hoursAt l p) s)
@@ -71,15 +69,15 @@ module _ (l : Layout) (s : List ℕ) (p : ℕ) (fits : hoursAt l p + hoursWidth 
 
   -- k1.
   module _ (few : l .header .days ≤ 31) (from : 1 ≤ l .header .weekday) (to : l .header .weekday ≤ 7) {on : List Bool} (days : on ≡ listed (tableDay (l .header)) 256) where
-    control : {c : Control} → c ≡ controlIn part (Hourly.Power (hourSeries l .outside)) (l .header .days) on
-        → c ≡ record { counted = tenths (controlSum (l .header) (producerUnder l s p .outsideUse)); count = controlCount (l .header) }
-    control is =
+    average : {a : ℕ} → a ≡ averageIn hundredth part (Hourly.Power (hourSeries l .outside)) (l .header .days) on
+        → a ≡ controlAverage hundredth (l .header) (producerUnder l s p .outsideUse)
+    average is =
         is
-        ∙ control-known (l .header) few from to days part (Hourly.Power (hourSeries l .outside)) (producerUnder l s p .outsideUse)
-        (unfold hourlyStands in standing (hourSeries l .outside) refl (omega arith)) (read (hourSeries l .outside) refl (omega arith))
+        ∙ average-known (l .header) few from to days part (Hourly.Power (hourSeries l .outside)) (producerUnder l s p .outsideUse)
+        (unfold hourlyStands in standing (hourSeries l .outside) refl (omega arith)) (read (hourSeries l .outside) refl (omega arith)) hundredth
 
-    pub k1-known : {c : Control} {r : Ratio} {x : Stated} (T : ℕ) → c ≡ controlIn part (Hourly.Power (hourSeries l .outside)) (l .header .days) on → x ≡ statedOf s (producerAt l p)
-        → r ≡ lessPenalty T (bandOf (thousandths (overOf c (x .deductible)) (x .deductible)) * overOf c (x .deductible))
-        → r ≡ exactK1 (l .header) (producerUnder l s p) T
-    unfolding exactK1 penalty overuse controlAverage
-    k1-known T counted stated is = rw (is, control counted, stated)
+    pub k1-known : {a r : ℕ} {x : Stated} (T : ℕ) → a ≡ averageIn hundredth part (Hourly.Power (hourSeries l .outside)) (l .header .days) on → x ≡ statedOf s (producerAt l p)
+        → r ≡ millionthsOf (lessPenalty T (penaltyOf a (x .deductible)))
+        → r ≡ k1 (l .header) (producerUnder l s p) T
+    unfolding k1 exactK1 penalty overuse
+    k1-known T averaged stated is = rw (is, average averaged, stated)

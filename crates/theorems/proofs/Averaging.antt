@@ -5,7 +5,7 @@ use mathlib.Core.Bool.{Bool, true, false, cond}
 use mathlib.Core.Logic.{_⊎_, inl, inr}
 use mathlib.Core.List.{List}
 use Prim.Native.Nat.{ℕ, zero, suc, zero-le, _+_, _-_, _*_, _^_, _≤_, _<_}
-use native.Mathlib.Nat.{le-refl, add-zero, mul-le-mul-left}
+use native.Mathlib.Nat.{le-refl, add-zero}
 use native.Mathlib.Omega.{arith}
 use borrow.Author.Tests.{eqb-true, eqb-false, eq-eqb, ne-eqb}
 use lib.Dec.{eqb}
@@ -28,8 +28,7 @@ use Rattle.rules.specs.Result.{TotalFigures, rowFigures, consumerFigures, resul
 use Rattle.rules.specs.Outcome.{Accepted, bufferAfter}
 use Rattle.rules.specs.ComplexRecord.{complex, drawn, sent}
 use Rattle.rules.specs.Averaging.{net, complexPeak, averageRefusal, peakWritten, averaged, atPeak, withPeakOf}
-use Rattle.laws.proofs.Units.{rounded-at-most}
-use Rattle.laws.proofs.Coefficients.{average-is}
+use Rattle.laws.proofs.Coefficients.{average-at-most}
 use Rattle.laws.proofs.Fields.{length-bytesOf, same-bytes, Holds, read-held}
 use Rattle.laws.proofs.Sheet.{consumer-inside}
 use Rattle.laws.proofs.Written.{length-overAt, overAt-holds, overAt-keeps}
@@ -63,11 +62,10 @@ unfolding sum
 sum-times f g k zero h = zero-le
 sum-times f g k (suc n) h = omega (arith, sum-times f g k n (λ i l. h i (omega arith)), h n (omega arith))
 
-average-at-most : (fineness : ℕ) (h : Header) (f : ℕ → ℕ) (most : ℕ) → ((i : ℕ) → i < hours h → f i ≤ most)
+control-average-at-most : (fineness : ℕ) (h : Header) (f : ℕ → ℕ) (most : ℕ) → ((i : ℕ) → i < hours h → f i ≤ most)
     → controlAverage fineness h f ≤ fineness * most
 unfolding controlAverage
-average-at-most fineness h f most low =
-    rw average-is (rounded-at-most (fineness * most) (controlCount h) (omega (arith, mul-le-mul-left fineness sums)))
+control-average-at-most fineness h f most low = average-at-most fineness most (controlCount h) sums
   where
     times : (b : Bool) (v : ℕ) → v ≤ most → when b v ≤ most * when b 1
     times true v l = unfold when in omega (arith, l)
@@ -196,7 +194,7 @@ module _ (s r : List ℕ) where
 
     pub peak-most : complexPeak (headerOf s) r ≤ tenthsCeiling
     unfolding complexPeak net
-    peak-most = omega (arith, average-at-most tenth (headerOf s) (λ i. drawn r i - sent r i) tenthsCeiling (λ i l. omega (arith, low .drawn i l)))
+    peak-most = omega (arith, control-average-at-most tenth (headerOf s) (λ i. drawn r i - sent r i) tenthsCeiling (λ i l. omega (arith, low .drawn i l)))
 
     long : length new ≡ length s
     long = as-long s form (complex r) (complexPeak (headerOf s) r) (whole .complex)

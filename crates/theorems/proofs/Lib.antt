@@ -14,4 +14,5 @@ pub mod Averaging
 pub mod Text2015
 pub mod SameFigures
 pub mod Version2
+pub mod WholeTenths
 pub mod Requests

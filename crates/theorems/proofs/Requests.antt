@@ -9,7 +9,10 @@ use lib.Dec.{T, leb}
 use lib.ListN.{length, drop}
 use Rattle.rules.specs.declared.Band.{Band}
 use Rattle.rules.specs.declared.Consumer.{Consumer}
+use Rattle.rules.specs.declared.Header.{Header}
 use Rattle.rules.specs.Bands.{bands, factorOf}
+use Rattle.rules.specs.Month.{Producer}
+use Rattle.rules.specs.Coefficients.{k1}
 use Rattle.rules.specs.Consumers.{volumeOf}
 use Rattle.rules.specs.ControlHours.{weekdayOn, controlWeekday, controlDay}
 use Rattle.rules.specs.ControlTable.{controlWeekdays, lineOf, says, tableDay}
@@ -37,6 +40,7 @@ use Rattle.theorems.specs.Request3.{OnlyPeak, HigherDrawn, OnlyLine, NoL
 use Rattle.theorems.specs.Request4.{rising, HigherPeaks, NoLower2015}
 use Rattle.theorems.specs.Alike.{Alike}
 use Rattle.theorems.specs.Request5.{FullRows, SameAnswers}
+use Rattle.theorems.specs.Request6.{k1ByTenths, WholeTenths}
 use Rattle.theorems.proofs.Transfers as Transfers
 use Rattle.theorems.proofs.Averaging as Averaging
 use Rattle.theorems.proofs.Bands as Bands
@@ -44,6 +48,7 @@ use Rattle.theorems.proofs.Consumers as Consumers
 use Rattle.theorems.proofs.Text2015 as Text2015
 use Rattle.theorems.proofs.SameFigures as SameFigures
 use Rattle.theorems.proofs.Version2 as Version2
+use Rattle.theorems.proofs.WholeTenths as WholeTenths
 
 -- Request 1: transfers of contract volume -------------------------------------------------------------------------------------------
 
@@ -254,3 +259,9 @@ version-2-there s form first =
     let past = form-clear (inVersion2 s) (Version2.form-after s (form-limits s form) first) in
     let full = Version2.full-after s (form-limits s form) first in
     (past, full, version-2-full s (inVersion2 s) form past full)
+
+-- Request 6: outside use to a hundredth ------------------------------------------------------------------------------------------------
+
+-- A producer whose outside use is on average a whole number of tenths has the k1 that it had when the average was rounded to a tenth.
+pub whole-tenths-same : (h : Header) (p : Producer) (tenths : ℕ) → WholeTenths h p tenths → (T : ℕ) → k1 h p T ≡ k1ByTenths h p T
+whole-tenths-same = WholeTenths.same

@@ -5,3 +5,4 @@ pub mod Request1
 pub mod Request3
 pub mod Request4
 pub mod Request5
+pub mod Request6

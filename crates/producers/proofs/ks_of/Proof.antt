@@ -9,20 +9,20 @@ cast-hours c = search needs
 mul-hours : tie.Need-mul-hours
 mul-hours c = search needs
 
-millionths-of-requires : tie.Need-millionths-of-requires
-millionths-of-requires c κs = search needs
-
 bids-requires : tie.Need-bids-requires
 bids-requires c κs = search needs
 
-cast-t9 : tie.Need-cast-t9
-cast-t9 c = search needs
+cast-t8 : tie.Need-cast-t8
+cast-t8 c = search needs
 
-millionths-of-requires-2 : tie.Need-millionths-of-requires-2
-millionths-of-requires-2 c κs = search needs
+millionths-of-requires : tie.Need-millionths-of-requires
+millionths-of-requires c κs = search needs
 
 plans-requires : tie.Need-plans-requires
 plans-requires c κs = search needs
+
+cast-t11 : tie.Need-cast-t11
+cast-t11 c = search needs
 
 cast-t12 : tie.Need-cast-t12
 cast-t12 c = search needs
@@ -31,16 +31,13 @@ cast-t13 : tie.Need-cast-t13
 cast-t13 c = search needs
 
 cast-t14 : tie.Need-cast-t14
-cast-t14 c = search needs
+cast-t14 c = omega (arith, c .struct-known6 .given)
 
 cast-t15 : tie.Need-cast-t15
-cast-t15 c = omega (arith, c .struct-known6 .given)
-
-cast-t16 : tie.Need-cast-t16
-cast-t16 c = omega (arith, c .struct-known7 .given)
+cast-t15 c = omega (arith, c .struct-known7 .given)
 
 returns : tie.Need-returns
-returns c = rw (c .before .before .before .before .before .before .before .before .before .millionths-of .ensures, c .before .before .before .before .before .before .before .before .bids .ensures, c .before .before .before .before .before .before .millionths-of2 .ensures, c .before .before .before .before .before .plans .ensures)
+returns c = rw (c .before .before .before .before .before .before .before .before .bids .ensures, c .before .before .before .before .before .before .millionths-of .ensures, c .before .before .before .before .before .plans .ensures)
 
 pub ks-of-spec : {M : Type 1} → statement M
 ks-of-spec =
@@ -48,14 +45,13 @@ ks-of-spec =
     (tie.spec
     cast-hours
     mul-hours
-    millionths-of-requires
     bids-requires
-    cast-t9
-    millionths-of-requires-2
+    cast-t8
+    millionths-of-requires
     plans-requires
+    cast-t11
     cast-t12
     cast-t13
     cast-t14
     cast-t15
-    cast-t16
     returns)

@@ -8,7 +8,7 @@ use Rattle.rules.specs.declared.Ratio.{Ratio}
 use Rattle.rules.specs.declared.Stated.{Stated}
 use Rattle.rules.specs.Sheet.{hoursWidth, hoursAt, producerAt, statedOf, producerUnder, monthUnder}
 use Rattle.rules.specs.Cut.{summedCapacity}
-use Rattle.rules.specs.Coefficients.{exactK1}
+use Rattle.rules.specs.Coefficients.{k1}
 use Rattle.units.specs.Sums.{tenths}
 use Rattle.sheet.specs.Whole.{statedIn}
 use Rattle.sheet.proofs.Whole.{stated-whole}
@@ -48,18 +48,18 @@ hour-series-requires c κs = search needs
 k4-sums-requires : tie.Need-k4-sums-requires
 k4-sums-requires c κs = search needs
 
-control-hours-requires : tie.Need-control-hours-requires
-control-hours-requires c κs = search needs
+average-to-hundredth-requires : tie.Need-average-to-hundredth-requires
+average-to-hundredth-requires c κs = search needs
 
-exact-k1-requires : tie.Need-exact-k1-requires
-exact-k1-requires c κs = (c .control-hours .ensures .1, beginning (summing (c .before .before)) .pre .1 .0 .1 .0)
+k1-of-requires : tie.Need-k1-of-requires
+k1-of-requires c κs = (c .average-to-hundredth .ensures .1, beginning (summing (c .before .before)) .pre .1 .0 .1 .0)
 
 exact-k4-requires : tie.Need-exact-k4-requires
 exact-k4-requires c κs = search needs
 
 ks-of-requires : tie.Need-ks-of-requires
 ks-of-requires c κs =
-    (c .before .exact-k1 .ensures .1, omega (arith, ap (λ (r : Ratio). r .part) (c .exact-k4 .ensures), c .before .before .before .before .k4-sums .ensures .1 .1, beginning (summing (c .before .before .before .before)) .pre .0 .0))
+    omega (arith, ap (λ (r : Ratio). r .part) (c .exact-k4 .ensures), c .before .before .before .before .k4-sums .ensures .1 .1, beginning (summing (c .before .before .before .before)) .pre .0 .0)
 
 returns : tie.Need-returns
 returns c =
@@ -75,9 +75,9 @@ returns c =
     let lent = u .before .stretch .ensures .0 in
     let sums = rw (u .hour-series .ensures, summed) at (c .before .before .before .before .before .k4-sums .ensures .0) in
     let fourth = k4-known l s p fits lent (summedCapacity m p) sums (c .before .exact-k4 .ensures) in
-    let counted = rw (u .hour-series .ensures) at (c .before .before .before .control-hours .ensures .0) in
-    let first = k1-known l s p fits lent (a .pre .0 .0) (a .pre .1 .1 .0) (a .pre .1 .1 .1) (a .pre .1 .1 .2) (a .args .v .support .0) counted x (c .before .before .exact-k1 .ensures .0)
-    ∙ ap (λ (v : Volumes). exactK1 (l .header) (producerUnder l s p) (v .support .0)) (a .pre .1 .0 .0) in
+    let counted = rw (u .hour-series .ensures) at (c .before .before .before .average-to-hundredth .ensures .0) in
+    let first = k1-known l s p fits lent (a .pre .0 .0) (a .pre .1 .1 .0) (a .pre .1 .1 .1) (a .pre .1 .1 .2) (a .args .v .support .0) counted x (c .before .before .k1-of .ensures)
+    ∙ ap (λ (v : Volumes). k1 (l .header) (producerUnder l s p) (v .support .0)) (a .pre .1 .0 .0) in
     let excess = left-stated l s p x summed (u .before .before .excess-of .ensures) in
     rw (ap tenths excess, c .ks-of .ensures ∙ ks-known l s p x first fourth)
 
@@ -91,8 +91,8 @@ terms-of-spec =
     stretch-requires
     hour-series-requires
     k4-sums-requires
-    control-hours-requires
-    exact-k1-requires
+    average-to-hundredth-requires
+    k1-of-requires
     exact-k4-requires
     ks-of-requires
     returns)

@@ -1,22 +1,15 @@
 use borrow.Author.Needs.{needs}
 use Rattle.hours.proofs.control.average_to_tenth.Statement.{statement}
 use Rattle.hours.proofs.control.average_to_tenth.Tie as tie
-use Rattle.hours.proofs.control.average_to_tenth.Reads as reads
-use Rattle.hours.proofs.control.average_to_tenth.Lts as lts
-use Rattle.hours.proofs.control.average_of.Reads as average-of-reads
-use Rattle.hours.proofs.control.control_hours.Reads as control-hours-reads
 
--- src/control.rt:84:23
 control-hours-requires : tie.Need-control-hours-requires
 control-hours-requires c κs = search needs
 
--- src/control.rt:84:12
 average-of-requires : tie.Need-average-of-requires
 average-of-requires c κs = search needs
 
--- src/control.rt:81:1
 returns : tie.Need-returns
-returns c = ?
+returns c = rw (c .average-of .ensures, c .before .control-hours .ensures .0)
 
 pub average-to-tenth-spec : {M : Type 1} → statement M
 average-to-tenth-spec = tie.close (tie.spec control-hours-requires average-of-requires returns)

@@ -29,11 +29,11 @@ by-day-requires c κs =
 
 returns : tie.Need-returns
 unfolding controlIn
-returns c = (rw (stand (c .before)) (c .by-day .ensures .0), c .by-day .ensures .1)
+returns c = (rw (stand (c .before)) (c .by-day .ensures .0), (c .by-day .ensures .1, c .by-day .ensures .2))
 
 returns-2 : tie.Need-returns-2
 unfolding controlIn
-returns-2 c = (rw (sym (c .before .hourly-stands .ensures), c .if1 .left), zero-le, zero-le)
+returns-2 c = (rw (sym (c .before .hourly-stands .ensures), c .if1 .left), (zero-le, zero-le))
 
 pub control-hours-spec : {M : Type 1} → statement M
 control-hours-spec =

@@ -1,9 +1,13 @@
 use Prim.Native.Nat.{_≤_}
 use native.Mathlib.Omega.{arith}
 use native.Mathlib.Nat.{mul-le-mul}
+use Rattle.laws.proofs.Bands.{thousandths-once}
 use borrow.Author.Needs.{needs}
-use Rattle.coefficients.proofs.penalty.Statement.{statement}
-use Rattle.coefficients.proofs.penalty.Tie as tie
+use Rattle.producers.proofs.k1.penalty.Statement.{statement}
+use Rattle.producers.proofs.k1.penalty.Tie as tie
+
+mul-thousandths : tie.Need-mul-thousandths
+mul-thousandths c = search needs
 
 thousandths-requires : tie.Need-thousandths-requires
 thousandths-requires c κs = search needs
@@ -16,13 +20,12 @@ cast-result c = search needs
 
 mul-result : tie.Need-mul-result
 mul-result c =
-    let n : c .factor .result ≤ 255 = omega arith in
-    let d : c .before .before .args .over ≤ 4294967295 = omega arith in
-    omega (arith, mul-le-mul n d)
+    let n : c .before .factor .result ≤ 255 = omega arith in
+    omega (arith, mul-le-mul n (c .before .before .before .before .pre))
 
 returns : tie.Need-returns
-returns c = rw (c .factor .ensures, c .before .thousandths .ensures)
+returns c = rw (c .before .factor .ensures, c .before .before .thousandths .ensures, thousandths-once)
 
 pub penalty-spec : {M : Type 1} → statement M
 penalty-spec =
-    tie.close (tie.spec thousandths-requires factor-requires cast-result mul-result returns)
+    tie.close (tie.spec mul-thousandths thousandths-requires factor-requires cast-result mul-result returns)
