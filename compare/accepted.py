@@ -151,6 +151,15 @@ def largest_payments(rng):
     return Sheet(month, [full_producer(month)], rows, [])
 
 
+def largest_penalty(rng):
+    """Outside use at the ceiling over a deductible of 0 or 0.1 MW: the largest D, p and n × D. From three rows on k1 is
+    above 0."""
+    sheet = largest_payments(rng)
+    sheet.producers[0].deductible = rng.choice((0, 1))
+    sheet.producers[0].outside = flat(sheet.month, TOP_CAPACITY)
+    return sheet
+
+
 def largest_charges(rng):
     month = draw_month(rng)
     contract, count = rng.choice((0, 1, TOP_CAPACITY)), rng.choice((1, MOST_CONSUMERS))
@@ -172,6 +181,7 @@ CEILINGS.update({
     "consumer_price": ceiling_of_consumer("price", TOP_PRICE),
     "all_ceilings": all_ceilings,
     "largest_payments": largest_payments,
+    "largest_penalty": largest_penalty,
     "largest_charges": largest_charges,
 })
 

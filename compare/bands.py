@@ -102,8 +102,8 @@ def k1_at(edge, side):
 
 
 def other_side_by_tenth(edge, above):
-    """p is above an edge, or is not, and an average rounded to a tenth would bring it to the other side. Only a small
-    deductible has such a D."""
+    """p is above an edge, or is not, and an average rounded to a tenth would bring it to the other side. The deductible
+    is small, so that p takes large steps."""
     def draw(rng):
         while True:
             month, deductible = draw_month(rng, control_days=2), rng.randrange(1, 61)
@@ -112,7 +112,8 @@ def other_side_by_tenth(edge, above):
             total = rng.choice(sums_of(month, HUNDREDTHS * deductible + overuse))
             tenths = rounded(total, len(month.control_hours())) - deductible
             if (HUNDREDTHS * tenths <= last) == above:
-                return outside_sheet(rng, month, deductible, with_sum(rng, month, total), little_support(rng, overuse))
+                outside = with_sum(rng, month, total)
+                return outside_sheet(rng, month, deductible, outside, little_support(rng, overuse))
     return draw
 
 
@@ -184,17 +185,17 @@ def penalty_above_all(rng):
 
 
 def small_deductible(rng):
-    """p takes large steps here."""
+    """p takes large steps here too."""
     deductible = rng.randrange(1, 60)
     return k1_sheet(rng, deductible, rng.randrange(HUNDREDTHS * (deductible + 2)), rng.randrange(200))
 
 
-BY_TENTH = {"not_by_tenth": True, "only_by_tenth": False}
 PAST = {"is_all": 0, "a_thousandth_more": 1, "a_thousandth_less": -1, "a_hundredth_more": 10, "a_hundredth_less": -10,
         "a_tenth_more": 100, "a_tenth_less": -100}
 BANDS_OF_K1 = {
     **{f"{side}_{edge}": k1_at(edge, side) for side in SIDES for edge in EDGES},
-    **{f"above_{edge}_{words}": other_side_by_tenth(edge, above) for edge in EDGES for words, above in BY_TENTH.items()},
+    **{f"above_{edge}_not_by_tenth": other_side_by_tenth(edge, True) for edge in EDGES},
+    **{f"above_{edge}_only_by_tenth": other_side_by_tenth(edge, False) for edge in EDGES},
     **{f"penalty_{words}": penalty_past(past) for words, past in PAST.items()},
 }
 BANDS_OF_K1.update((corner.__name__, corner) for corner in (

@@ -15,6 +15,11 @@ P_OF_K1 = "thousandths (overuse h p) (inHundredths (p .deductible))"
 COMPLEX_PEAK = "controlAverage tenth h (net r) - imported r"
 NOT_ROUNDED = "(hundredth * controlSum h (p .outsideUse) - inHundredths (p .deductible) * controlCount h)"
 
+# Deductible capacity in tenths beside hundredths, in D and in p; and the text of Units before the count of thousandths.
+TENTHS_IN_D = "Coefficients", "- inHundredths (p .deductible)", "- p .deductible"
+TENTHS_IN_P = "Coefficients", P_OF_K1, "thousandths (overuse h p) (p .deductible)"
+IN_THOUSANDTHS = "inThousandths tenths = tenths *"
+
 # Row j's volume for the days that it covers, rounded to a tenth, and the sums of these for producer p: of its support
 # rows, and of all.
 FOR_DAYS = "(forDays (daysCovered (m .header .days) (m .row j)) (m .row j .volume))"
@@ -386,22 +391,21 @@ SLIPS = [
      ("Coefficients", USE_TO_A_HUNDREDTH, "inHundredths (controlAverage tenth h (p .outsideUse))")),
     ("the average of outside use rounded down to a hundredth",
      ("Coefficients", USE_TO_A_HUNDREDTH, "hundredth * controlSum h (p .outsideUse) / controlCount h")),
-    ("deductible in tenths beside hundredths, in D", ("Coefficients", "- inHundredths (p .deductible)", "- p .deductible")),
-    ("deductible in tenths beside hundredths, in p", ("Coefficients", P_OF_K1, "thousandths (overuse h p) (p .deductible)")),
-    ("deductible in tenths beside hundredths, in D and p",
-     ("Coefficients", "- inHundredths (p .deductible)", "- p .deductible"),
-     ("Coefficients", P_OF_K1, "thousandths (overuse h p) (p .deductible)")),
+    ("deductible in tenths beside hundredths, in D", TENTHS_IN_D),
+    ("deductible in tenths beside hundredths, in p", TENTHS_IN_P),
+    ("deductible in tenths beside hundredths, in D and p", TENTHS_IN_D, TENTHS_IN_P),
     ("p from the average to a tenth",
      ("Coefficients", P_OF_K1, "thousandths (controlAverage tenth h (p .outsideUse) - p .deductible) (p .deductible)")),
     ("p from D rounded to a tenth",
      ("Coefficients", P_OF_K1, "thousandths (rounded (overuse h p) 10) (p .deductible)")),
     ("n × D from D rounded to a tenth",
      ("Coefficients", "* overuse h p", "* inHundredths (rounded (overuse h p) 10)")),
-    ("n × D a tenth of what it is", ("Units", "inThousandths tenths = tenths * 100", "inThousandths tenths = tenths * 1000")),
-    ("n × D ten times what it is", ("Units", "inThousandths tenths = tenths * 100", "inThousandths tenths = tenths * 10")),
+    ("n × D a tenth of what it is", ("Units", f"{IN_THOUSANDTHS} 100", f"{IN_THOUSANDTHS} 1000")),
+    ("n × D ten times what it is", ("Units", f"{IN_THOUSANDTHS} 100", f"{IN_THOUSANDTHS} 10")),
     ("n × D rounded to a hundredth",
      ("Coefficients", f"bandOf ({P_OF_K1}) * overuse h p", f"10 * rounded (bandOf ({P_OF_K1}) * overuse h p) 10")),
-    ("deductible in hundredths, in S", ("Cut", "+ m .producer p .deductible", "+ inHundredths (m .producer p .deductible)")),
+    ("deductible in hundredths, in S",
+     ("Cut", "+ m .producer p .deductible", "+ inHundredths (m .producer p .deductible)")),
     ("a complex's peak in hundredths",
      ("Averaging", COMPLEX_PEAK, "controlAverage hundredth h (net r) - inHundredths (imported r)")),
     ("a complex's average rounded to a hundredth, then to a tenth",

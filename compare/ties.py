@@ -5,7 +5,7 @@ They are made so that a wrong rounding shows in the result and is not lost in a 
 from array import array
 from math import gcd
 
-from bands import deductibles_for, half_sheet, k1_sheet, little_support, some_support
+from bands import P_OF_FACTOR, deductibles_for, half_sheet, k1_sheet, little_support, some_support
 from drawing import (HUNDREDTHS, draw_month, draw_price, flat, full_producer, in_parts, one_row_sheet, plain_consumer,
                      spread, with_average)
 from records import ONE, SINGLE_BUYER, TOP_CAPACITY, TOP_PRICE, TOP_Z, Row, Sheet
@@ -59,7 +59,7 @@ def tie_k1(rng):
     month = draw_month(rng, control_days=2)
     deductibles = ()
     while not deductibles:
-        n, unit, odd = rng.choice((13, 15, 17, 20)), rng.randrange(1, 120), rng.randrange(1, 150, 2)
+        n, unit, odd = rng.choice(list(P_OF_FACTOR)), rng.randrange(1, 120), rng.randrange(1, 150, 2)
         overuse, support = unit * odd, unit * (128 if n == 20 else 32)
         deductibles = deductibles_for(n, overuse)
     producer = full_producer(month)
