@@ -151,6 +151,15 @@ def largest_payments(rng):
     return Sheet(month, [full_producer(month)], rows, [])
 
 
+def largest_penalty(rng):
+    """Outside use at the ceiling over a deductible of 0 or 0.1 MW: the largest D, p and n × D. From three rows on k1 is
+    above 0."""
+    sheet = largest_payments(rng)
+    sheet.producers[0].deductible = rng.choice((0, 1))
+    sheet.producers[0].outside = flat(sheet.month, TOP_CAPACITY)
+    return sheet
+
+
 def largest_charges(rng):
     month = draw_month(rng)
     contract, count = rng.choice((0, 1, TOP_CAPACITY)), rng.choice((1, MOST_CONSUMERS))
@@ -172,6 +181,7 @@ CEILINGS.update({
     "consumer_price": ceiling_of_consumer("price", TOP_PRICE),
     "all_ceilings": all_ceilings,
     "largest_payments": largest_payments,
+    "largest_penalty": largest_penalty,
     "largest_charges": largest_charges,
 })
 
@@ -324,12 +334,12 @@ def both_bids_missing(rng):
 
 def use_in_hour_23(rng):
     """Outside use is high only from 23:00 to 24:00, or in every hour but that one."""
-    month = draw_month(rng, with_control_day=True)
+    month = draw_month(rng, control_days=1)
     producer = full_producer(month)
     producer.deductible = rng.randrange(1000, 10_000)
-    usual, late = rng.choice(((0.5, 9), (1.3, 0)))
-    day = [int(producer.deductible * usual)] * 23 + [capacity(producer.deductible * late)]
-    producer.outside = array("I", day) * month.days
+    low, high, late = rng.choice(((0.4, 0.6, 9), (1.2, 1.4, 0)))
+    producer.outside = spread(rng, month, int(producer.deductible * low), int(producer.deductible * high))
+    producer.outside[23::24] = array("I", [capacity(producer.deductible * late)]) * month.days
     return one_row_sheet(rng, month, producer, rng.randrange(50_000, TOP_CAPACITY))
 
 

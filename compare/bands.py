@@ -1,6 +1,9 @@
 """Sheets at the edges of the bands, and at the zero rules beside them, for k1 and for consumers."""
-from drawing import draw_mining_days, draw_month, draw_price, full_producer, in_parts, plain_consumer, with_average
-from records import LOWEST_Z, MOST_CONSUMERS, SINGLE_BUYER, TOP_CAPACITY, TOP_Z, Row, Sheet
+from math import gcd
+
+from drawing import (HUNDREDTHS, draw_mining_days, draw_month, draw_price, full_producer, in_parts, plain_consumer,
+                     sums_of, with_average, with_sum)
+from records import LOWEST_Z, MOST_CONSUMERS, SINGLE_BUYER, TOP_CAPACITY, TOP_Z, Row, Sheet, rounded
 
 EDGES = (50, 200, 400, 500)
 
@@ -9,26 +12,53 @@ EDGES = (50, 200, 400, 500)
 SIDES = ("last", "next", "exact", "exact_next", "half")
 
 
-def excess_at(rng, edge, side, whole=1000, most=60_000):
+def last_excess(edge, reference, whole):
+    """The last excess over a reference with p at most at an edge, in so many parts of the reference to a whole."""
+    return ((2 * edge + 1) * reference - 1) // (2 * whole)
+
+
+def excess_at(rng, edge, side, whole, most):
     """A reference, at most this, and an excess over it that is an edge or one above it, rounded, in so many parts of
     the reference to a whole."""
     if side in ("last", "next"):
         reference = rng.randrange(2 * whole, most + 1)
-        excess = ((2 * edge + 1) * reference - 1) // (2 * whole)
-        return reference, excess + (side == "next")
+        return reference, last_excess(edge, reference, whole) + (side == "next")
     times = rng.randrange(1, most // (2 * whole) + 1)
     if side == "half":
         return 2 * whole * times, (2 * edge + 1) * times
     return whole * times, (edge + (side == "exact_next")) * times
 
 
-def k1_sheet(rng, deductible, average, support):
-    """One producer with this deductible, control average and T. Only k1 is below 1."""
-    month = draw_month(rng, with_control_day=True)
+# ------------------------------------------------------------------ k1
+
+# D is in hundredths and the deductible in tenths, so p is 100 × D over the deductible.
+WHOLE = 100
+# The first and the last p of each n above 0; the last band has no end.
+P_OF_FACTOR = {13: (51, 200), 15: (201, 400), 17: (401, 500), 20: (501, None)}
+
+
+def deductibles_for(n, overuse):
+    """The deductibles over which D meets n; where n is 2.0, a deductible of 0 is one."""
+    first, last = P_OF_FACTOR[n]
+    least = 2 * WHOLE * overuse // (2 * last + 1) + 1 if last else 0
+    return range(least, 2 * WHOLE * overuse // (2 * first - 1) + 1)
+
+
+def little_support(rng, overuse):
+    """A T above n × D, whatever n is, and so small that rows show a hundredth of D."""
+    least = overuse // 5 + 1
+    return rng.randrange(least, min(2 * least + 50, TOP_CAPACITY + 1))
+
+
+def some_support(rng, overuse):
+    """A T above n × D, small or any."""
+    return rng.choice((little_support(rng, overuse), rng.randrange(overuse // 5 + 1, TOP_CAPACITY + 1)))
+
+
+def outside_sheet(rng, month, deductible, outside, support):
+    """One producer with this deductible, outside use and T. Only k1 is below 1."""
     producer = full_producer(month)
-    producer.deductible = deductible
-    below_half = len(month.control_hours()) // 2
-    producer.outside = with_average(rng, month, average, rng.randrange(below_half) if average else 0)
+    producer.deductible, producer.outside = deductible, outside
     rows = [Row(0, SINGLE_BUYER, part, draw_price(rng)) for part in in_parts(rng, support)]
     if support == 0 and rng.random() < 0.5:
         rows = []
@@ -38,60 +68,142 @@ def k1_sheet(rng, deductible, average, support):
     return Sheet(month, [producer], rows, [plain_consumer(rng, 5000, rng.randrange(30_000))])
 
 
+def k1_sheet(rng, deductible, overuse, support):
+    """The same by D in hundredths; below 0, the control average is so much below the deductible."""
+    month = draw_month(rng, control_days=2)
+    outside = with_average(rng, month, HUNDREDTHS * deductible + overuse)
+    return outside_sheet(rng, month, deductible, outside, support)
+
+
+def half_sheet(rng, deductible, overuse, support):
+    """The same with a control average half a hundredth below the one that is rounded."""
+    twice = 2 * (HUNDREDTHS * deductible + overuse) - 1
+    while True:
+        month = draw_month(rng, control_days=1)
+        total, rest = divmod(len(month.control_hours()) * twice, 2 * HUNDREDTHS)
+        if rest == 0:
+            return outside_sheet(rng, month, deductible, with_sum(rng, month, total), support)
+
+
+def in_proportion(rng, reference, excess):
+    """Both at most as large, in the same proportion."""
+    common = gcd(reference, excess)
+    times = rng.randrange(1, common + 1)
+    return reference // common * times, excess // common * times
+
+
 def k1_at(edge, side):
     def draw(rng):
-        deductible, excess = excess_at(rng, edge, side)
-        support = rng.randrange(2 * excess, TOP_CAPACITY + 1)
-        return k1_sheet(rng, deductible, deductible + excess, support)
+        deductible, overuse = excess_at(rng, edge, side, WHOLE, rng.choice((1000, 60_000)))
+        if side == "exact":  # also where D is no whole tenths
+            deductible, overuse = in_proportion(rng, deductible, overuse)
+        return k1_sheet(rng, deductible, overuse, some_support(rng, overuse))
+    return draw
+
+
+def other_side_by_tenth(edge, above):
+    """p is above an edge, or is not, and an average rounded to a tenth would bring it to the other side. The deductible
+    is small, so that p takes large steps."""
+    def draw(rng):
+        while True:
+            month, deductible = draw_month(rng, control_days=2), rng.randrange(1, 61)
+            last = last_excess(edge, deductible, WHOLE)
+            overuse = last + rng.randrange(1, 6) if above else max(0, last - rng.randrange(6))
+            total = rng.choice(sums_of(month, HUNDREDTHS * deductible + overuse))
+            tenths = rounded(total, len(month.control_hours())) - deductible
+            if (HUNDREDTHS * tenths <= last) == above:
+                outside = with_sum(rng, month, total)
+                return outside_sheet(rng, month, deductible, outside, little_support(rng, overuse))
+    return draw
+
+
+def penalty_past(past):
+    """n × D is T and so many thousandths."""
+    def draw(rng):
+        found = []
+        while not found:
+            n = rng.choice(list(P_OF_FACTOR))
+            found = [overuse for overuse in range(20, 1000) if (n * overuse - past) % 100 == 0]
+        overuse = rng.choice(found)
+        deductible = rng.choice(deductibles_for(n, overuse))
+        return k1_sheet(rng, deductible, overuse, (n * overuse - past) // 100)
     return draw
 
 
 def no_deductible_no_use(rng):
+    """The average is rounded to 0."""
     return k1_sheet(rng, 0, 0, rng.randrange(1, 50_000))
 
 
 def no_deductible_but_use(rng):
-    use = rng.randrange(1, 40_000)
-    return k1_sheet(rng, 0, use, rng.randrange(use, TOP_CAPACITY))
+    use = rng.randrange(1, rng.choice((100, 400_000)))
+    return k1_sheet(rng, 0, use, some_support(rng, use))
+
+
+def no_deductible_least_use(rng):
+    return k1_sheet(rng, 0, 1, rng.randrange(1, 100))
+
+
+def no_deductible_half_a_hundredth(rng):
+    return half_sheet(rng, 0, 1, rng.randrange(1, 100))
 
 
 def use_below_deductible(rng):
     deductible = rng.randrange(1, 50_000)
-    return k1_sheet(rng, deductible, rng.randrange(deductible + 1), rng.randrange(50_000))
+    below = rng.choice((0, 1, rng.randrange(HUNDREDTHS * deductible + 1)))
+    return k1_sheet(rng, deductible, -below, rng.randrange(50_000))
+
+
+def least_overuse(rng):
+    """D is 0.01 MW, within the first band or, over a deductible of 0.1, past it."""
+    return k1_sheet(rng, rng.choice((1, 1, 2, 3, rng.randrange(4, 60_000))), 1, rng.randrange(1, 100))
+
+
+def least_deductible(rng):
+    """0.1 MW: each hundredth of D is 100 thousandths of it."""
+    overuse = rng.randrange(1, 8)
+    return k1_sheet(rng, 1, overuse, little_support(rng, overuse))
 
 
 def no_support_penalty(rng):
     deductible = rng.randrange(0, 30_000)
-    return k1_sheet(rng, deductible, deductible + deductible // 10 + 1, 0)
+    return k1_sheet(rng, deductible, deductible + 1, 0)
+
+
+def no_support_least_penalty(rng):
+    return k1_sheet(rng, rng.choice((0, 1)), 1, 0)
 
 
 def no_support_no_penalty(rng):
     deductible = rng.randrange(0, 30_000)
-    return k1_sheet(rng, deductible, deductible + deductible // 25, 0)
-
-
-def penalty_is_all(rng):
-    """n × D is T exactly, or T is a tenth less or more."""
-    excess = rng.randrange(2, 20_000)
-    deductible = rng.choice((0, excess))
-    return k1_sheet(rng, deductible, deductible + excess, 2 * excess + rng.choice((0, 1, -1)))
+    return k1_sheet(rng, deductible, rng.choice((deductible // 2, 2 * deductible // 5)), 0)
 
 
 def penalty_above_all(rng):
-    excess = rng.randrange(100, 20_000)
-    return k1_sheet(rng, excess, 2 * excess, rng.randrange(1, 2 * excess))
+    deductible = rng.randrange(100, 20_000)
+    return k1_sheet(rng, deductible, HUNDREDTHS * deductible + rng.randrange(10), rng.randrange(1, 2 * deductible))
 
 
 def small_deductible(rng):
-    """p takes large steps here."""
+    """p takes large steps here too."""
     deductible = rng.randrange(1, 60)
-    return k1_sheet(rng, deductible, deductible + rng.randrange(deductible + 2), rng.randrange(200))
+    return k1_sheet(rng, deductible, rng.randrange(HUNDREDTHS * (deductible + 2)), rng.randrange(200))
 
 
-BANDS_OF_K1 = {f"{side}_{edge}": k1_at(edge, side) for side in SIDES for edge in EDGES}
+PAST = {"is_all": 0, "a_thousandth_more": 1, "a_thousandth_less": -1, "a_hundredth_more": 10, "a_hundredth_less": -10,
+        "a_tenth_more": 100, "a_tenth_less": -100}
+BANDS_OF_K1 = {
+    **{f"{side}_{edge}": k1_at(edge, side) for side in SIDES for edge in EDGES},
+    **{f"above_{edge}_not_by_tenth": other_side_by_tenth(edge, True) for edge in EDGES},
+    **{f"above_{edge}_only_by_tenth": other_side_by_tenth(edge, False) for edge in EDGES},
+    **{f"penalty_{words}": penalty_past(past) for words, past in PAST.items()},
+}
 BANDS_OF_K1.update((corner.__name__, corner) for corner in (
-    no_deductible_no_use, no_deductible_but_use, use_below_deductible, no_support_penalty, no_support_no_penalty,
-    penalty_is_all, penalty_above_all, small_deductible))
+    no_deductible_no_use, no_deductible_but_use, no_deductible_least_use, no_deductible_half_a_hundredth,
+    use_below_deductible, least_overuse, least_deductible, no_support_penalty, no_support_least_penalty,
+    no_support_no_penalty, penalty_above_all, small_deductible))
+
+# ------------------------------------------------------------------ consumers
 
 
 def peak_at(rng, edge, side):

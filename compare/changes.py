@@ -68,6 +68,8 @@ NAME_KINDS = (
     ("asked", "met"),
     ("overContract", "percentOf", "bracket"),
     ("tenthsCeiling", "millionthsCeiling", "tiynCeiling", "one"),
+    ("tenth", "hundredth"),
+    ("inHundredths", "inThousandths", "inMillionths", "toTenths"),
     ("lengthField", "version"),
     ("headerWidth", "rowWidth", "consumerWidth"),
     ("hours", "hoursWidth", "producerWidth"),

@@ -1,6 +1,7 @@
 """Which corners the cases of a run reached: the marks that the rival gives each case, and the kinds that were drawn."""
 from collections import Counter
 
+from bands import EDGES
 from refusals import FIGURES
 
 JUDGED_FROM = 2000  # fewer cases need not reach every corner
@@ -18,6 +19,16 @@ MARKS_OF_DAYS_REFUSED = {
     "3 and 6 by version": ["3version0", "3version3", "3versionabove", "6rows10", "6rows12"],
     "18 beside another": [f"N{number}with18" for number in FIGURES if number != 18],
     "18": [f"18{cause}" for cause in ("first0", "lastbefore", "lastafter", "firstrow", "lastrow")],
+}
+
+# Those of request 6: of the control average, of p on each side of an edge where D is no whole tenths, of p on another
+# side of it than by an average rounded to a tenth, and slips that would have shown.
+MARKS_OF_HUNDREDTHS = {
+    "average of outside use": ["hundredths", "wholetenths"],
+    "edges in hundredths": [f"k1{side}{edge}" for edge in EDGES for side in ("last", "next")],
+    "other band by the tenth": [f"k1{side}{edge}" for edge in EDGES for side in ("down", "up")],
+    "least D and deductible": ["k1d1", "k1deductible1"],
+    "slips of hundredths": ["k1tenth", "k1unscaled", "k1ptenths", "k1tenthpenalty"],
 }
 
 

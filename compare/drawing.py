@@ -5,11 +5,14 @@ The functions take a random.Random; the same state of it gives the same part.
 import struct
 from array import array
 
-from records import (LOWEST_Z, ONE, SINGLE_BUYER, TOP_CAPACITY, TOP_PRICE, TOP_Z, Consumer, Month, Producer, Row,
-                     Sheet)
+from records import (CONTROL_HOURS, LOWEST_Z, ONE, SINGLE_BUYER, TOP_CAPACITY, TOP_PRICE, TOP_Z, Consumer, Month,
+                     Producer, Row, Sheet)
+
+HUNDREDTHS = 10    # in a tenth
 
 
-def draw_month(rng, with_control_day=False):
+def draw_month(rng, control_days=0):
+    """A month with so many control days or more."""
     while True:
         days, weekday = rng.randrange(28, 32), rng.randrange(1, 8)
         form = rng.random()
@@ -24,7 +27,7 @@ def draw_month(rng, with_control_day=False):
         else:
             holidays = (1 << days) - 1
         month = Month(days, weekday, holidays)
-        if month.control_hours() or not with_control_day:
+        if len(month.control_hours()) >= len(CONTROL_HOURS) * control_days:
             return month
 
 
@@ -141,10 +144,11 @@ def plain_consumer(rng, contract, peak):
     return Consumer(contract, peak, 0, 0, LOWEST_Z, draw_price(rng))
 
 
-def with_average(rng, month, average, rest=0):
-    """Powers whose sum over the control hours is their count × average + rest; other hours have any power."""
-    powers = spread(rng, month, 0, capacity(3 * average + 1000))
+def with_sum(rng, month, total):
+    """Powers with this sum over the control hours; other hours have any power."""
     hours = month.control_hours()
+    average, rest = divmod(total, len(hours))
+    powers = spread(rng, month, 0, capacity(3 * average + 1000))
     rng.shuffle(hours)
     most = min(average, TOP_CAPACITY - average, 500)
     for one, other in zip(hours[0::2], hours[1::2]):
@@ -156,6 +160,20 @@ def with_average(rng, month, average, rest=0):
             powers[hour] += rest
             break
     return powers
+
+
+def sums_of(month, average):
+    """The sums over the control hours whose average, rounded to a hundredth, is so many of them. From two control days
+    on every average has such a sum."""
+    count = len(month.control_hours())
+    least, past = (-(-count * (2 * average + half) // (2 * HUNDREDTHS)) for half in (-1, 1))
+    return range(max(0, least), past)
+
+
+def with_average(rng, month, average):
+    """Powers whose control average is rounded to so many hundredths: from below, from above, or as it comes."""
+    sums = sums_of(month, average)
+    return with_sum(rng, month, rng.choice((sums[0], sums[-1], rng.choice(sums))))
 
 
 def in_parts(rng, volume):

@@ -8,6 +8,18 @@ the text that the slip puts in its place. That text may name any definition, imp
 ACTUAL = "through (afterCut m j) (coefficients m (m .row j .producer)) (daysCovered (m .header .days) (m .row j))"
 IN_TENTHS = "toTenths (forDays covered (running (inMillionths volume) ks))"
 
+# Texts of Coefficients and Averaging: the average of outside use, the p of k1, a complex's peak. And D before it is
+# rounded, times the count of control hours.
+USE_TO_A_HUNDREDTH = "controlAverage hundredth h (p .outsideUse)"
+P_OF_K1 = "thousandths (overuse h p) (inHundredths (p .deductible))"
+COMPLEX_PEAK = "controlAverage tenth h (net r) - imported r"
+NOT_ROUNDED = "(hundredth * controlSum h (p .outsideUse) - inHundredths (p .deductible) * controlCount h)"
+
+# Deductible capacity in tenths beside hundredths, in D and in p; and the text of Units before the count of thousandths.
+TENTHS_IN_D = "Coefficients", "- inHundredths (p .deductible)", "- p .deductible"
+TENTHS_IN_P = "Coefficients", P_OF_K1, "thousandths (overuse h p) (p .deductible)"
+IN_THOUSANDTHS = "inThousandths tenths = tenths *"
+
 # Row j's volume for the days that it covers, rounded to a tenth, and the sums of these for producer p: of its support
 # rows, and of all.
 FOR_DAYS = "(forDays (daysCovered (m .header .days) (m .row j)) (m .row j .volume))"
@@ -32,7 +44,11 @@ SLIPS = [
     ("the highest bit is day 1", ("ControlHours", "2 ^ day", "2 ^ (h .days - 1 - day)")),
     ("the lowest bit is no day", ("ControlHours", "2 ^ day", "2 ^ (day + 1)")),
     ("the average is over all hours",
-     ("Coefficients", "controlAverage h (p .outsideUse)", "average (sum (p .outsideUse) (hours h)) (hours h)")),
+     ("Coefficients", USE_TO_A_HUNDREDTH, "average (hundredth * sum (p .outsideUse) (hours h)) (hours h)")),
+    ("the average rounded one place further first",
+     ("ControlHours",
+      "average (fineness * controlSum h series) (controlCount h)",
+      "rounded (average (10 * fineness * controlSum h series) (controlCount h)) 10")),
 
     # bands
     ("an edge belongs to the next band", ("Bands", "leb p (row .edge)", "ltb p (row .edge)")),
@@ -78,15 +94,14 @@ SLIPS = [
     ("k1 of the average as it is, not rounded",
      ("Coefficients",
       "lessPenalty T (penalty h p)",
-      "lessPenalty (T * controlCount h) (bandOf (thousandths (controlSum h (p .outsideUse) - p .deductible * "
-      "controlCount h) (p .deductible * controlCount h)) * (controlSum h (p .outsideUse) - p .deductible * "
-      "controlCount h))")),
+      f"lessPenalty (T * controlCount h) (bandOf (thousandths {NOT_ROUNDED} (inHundredths (p .deductible) * "
+      f"controlCount h)) * {NOT_ROUNDED})")),
     ("k1's ratio rounded, then taken from 1",
-     ("Coefficients", "k1 h p T = millionthsOf (exactK1 h p T)", "k1 h p T = cond (eqb T 0) (millionthsOf (exactK1 h p T)) (one - share (penalty h p) (10 * T))")),
+     ("Coefficients", "k1 h p T = millionthsOf (exactK1 h p T)", "k1 h p T = cond (eqb T 0) (millionthsOf (exactK1 h p T)) (one - share (penalty h p) (inThousandths T))")),
     ("the band of k1 over T",
      ("Coefficients",
       "lessPenalty T (penalty h p)",
-      "lessPenalty T (bandOf (thousandths (overuse h p) T) * overuse h p)")),
+      "lessPenalty T (bandOf (thousandths (overuse h p) (inHundredths T)) * overuse h p)")),
     ("k1 left out of a row", ("Coefficients", "k1 h p T ∷ k2 h p", "k2 h p")),
     ("k1 counted twice", ("Coefficients", "k1 h p T ∷ k2 h p", "k1 h p T ∷ k1 h p T ∷ k2 h p")),
     ("k1 left out of bilateral rows",
@@ -230,16 +245,16 @@ SLIPS = [
     # industrial complexes
     ("an hour below 0 taken off the others",
      ("Averaging",
-      "controlAverage h (net r) - imported r",
+      COMPLEX_PEAK,
       "average (controlSum h (drawn r) - controlSum h (sent r)) (controlCount h) - imported r")),
     ("drawn and sent out averaged one by one",
      ("Averaging",
-      "controlAverage h (net r) - imported r",
-      "controlAverage h (drawn r) - controlAverage h (sent r) - imported r")),
+      COMPLEX_PEAK,
+      "controlAverage tenth h (drawn r) - controlAverage tenth h (sent r) - imported r")),
     ("imported power taken off each hour",
-     ("Averaging", "controlAverage h (net r) - imported r", "controlAverage h (λ i. net r i - imported r)")),
+     ("Averaging", COMPLEX_PEAK, "controlAverage tenth h (λ i. net r i - imported r)")),
     ("a complex averaged over all hours",
-     ("Averaging", "controlAverage h (net r) - imported r", "average (sum (net r) (hours h)) (hours h) - imported r")),
+     ("Averaging", COMPLEX_PEAK, "average (sum (net r) (hours h)) (hours h) - imported r")),
     ("the peak of consumer 0 written",
      ("Averaging", "withPeak (layoutOf s) (complex r)", "withPeak (layoutOf s) 0")),
     ("the peak never lowered",
@@ -370,4 +385,29 @@ SLIPS = [
      ("Outcome2015",
       "tests2015 s room = testsFor (length2015 (headerOf s)) s room",
       f"tests2015 s room = formTests s ++ roomTests (length2015 (headerOf s)) room ++ {BEFORE_18}")),
+
+    # outside use to a hundredth
+    ("the average of outside use still rounded to a tenth",
+     ("Coefficients", USE_TO_A_HUNDREDTH, "inHundredths (controlAverage tenth h (p .outsideUse))")),
+    ("the average of outside use rounded down to a hundredth",
+     ("Coefficients", USE_TO_A_HUNDREDTH, "hundredth * controlSum h (p .outsideUse) / controlCount h")),
+    ("deductible in tenths beside hundredths, in D", TENTHS_IN_D),
+    ("deductible in tenths beside hundredths, in p", TENTHS_IN_P),
+    ("deductible in tenths beside hundredths, in D and p", TENTHS_IN_D, TENTHS_IN_P),
+    ("p from the average to a tenth",
+     ("Coefficients", P_OF_K1, "thousandths (controlAverage tenth h (p .outsideUse) - p .deductible) (p .deductible)")),
+    ("p from D rounded to a tenth",
+     ("Coefficients", P_OF_K1, "thousandths (rounded (overuse h p) 10) (p .deductible)")),
+    ("n × D from D rounded to a tenth",
+     ("Coefficients", "* overuse h p", "* inHundredths (rounded (overuse h p) 10)")),
+    ("n × D a tenth of what it is", ("Units", f"{IN_THOUSANDTHS} 100", f"{IN_THOUSANDTHS} 1000")),
+    ("n × D ten times what it is", ("Units", f"{IN_THOUSANDTHS} 100", f"{IN_THOUSANDTHS} 10")),
+    ("n × D rounded to a hundredth",
+     ("Coefficients", f"bandOf ({P_OF_K1}) * overuse h p", f"10 * rounded (bandOf ({P_OF_K1}) * overuse h p) 10")),
+    ("deductible in hundredths, in S",
+     ("Cut", "+ m .producer p .deductible", "+ inHundredths (m .producer p .deductible)")),
+    ("a complex's peak in hundredths",
+     ("Averaging", COMPLEX_PEAK, "controlAverage hundredth h (net r) - inHundredths (imported r)")),
+    ("a complex's average rounded to a hundredth, then to a tenth",
+     ("Averaging", COMPLEX_PEAK, "rounded (controlAverage hundredth h (net r)) 10 - imported r")),
 ]

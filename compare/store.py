@@ -28,7 +28,7 @@ import record_cases
 import sheets
 import text_2015_cases
 from bands import EDGES
-from coverage import MARKS_OF_DAYS, MARKS_OF_DAYS_REFUSED, marks_of
+from coverage import MARKS_OF_DAYS, MARKS_OF_DAYS_REFUSED, MARKS_OF_HUNDREDTHS, marks_of
 from programs import Trouble
 from records import DAY_ROWS, FULL_ROWS
 from refusals import FIGURES, tried_before
@@ -38,7 +38,7 @@ from versions import Draws
 
 SEED = 152
 LONGEST_SHEET = 65_000
-MOST_BYTES = 2_300_000
+MOST_BYTES = 2_400_000
 DRAWS = 40
 
 # A sheet with one producer of 28 days, up to a few rows and consumers; a sheet without producers.
@@ -77,8 +77,11 @@ PLAN = {
 
 # What the files leave out, to stay small: other corners reach nearly the same.
 LEFT_OUT = {f"bands_of_k1/{side}_{edge}" for side in ("exact", "exact_next") for edge in EDGES} | {
-    "bands_of_k1/use_below_deductible", "bands_of_k1/small_deductible", "largest/full_counts", "refusal_5/producers_7",
-    "refusal_5/rows_33", "refusal_10/producer_other", "refusal_10/consumer_other", "zero_counts/rows_without_volume"}
+    f"bands_of_k1/penalty_{past}" for past in ("a_thousandth_more", "a_hundredth_more", "a_hundredth_less",
+                                               "a_tenth_more", "a_tenth_less")} | {
+    "bands_of_k1/no_deductible_least_use", "bands_of_k1/use_below_deductible", "bands_of_k1/no_support_least_penalty",
+    "bands_of_k1/small_deductible", "largest/full_counts", "refusal_5/producers_7", "refusal_5/rows_33",
+    "refusal_10/producer_other", "refusal_10/consumer_other", "zero_counts/rows_without_volume"}
 MONTHS_STORED = 28  # all months once, each with the next form of holidays
 # What only a sheet of version 2 can be.
 ONLY_IN_VERSION_2 = {f"several_rules/{number}_and_18" for number in tried_before(18)} | {
@@ -259,7 +262,8 @@ class Settled(NamedTuple):
     titles: dict
 
 
-SETTLEMENT = Settled(sheets.KINDS, "batch", "marks", {**MARKS_OF_DAYS, **MARKS_OF_DAYS_REFUSED})
+SETTLEMENT = Settled(sheets.KINDS, "batch", "marks",
+                     {**MARKS_OF_DAYS, **MARKS_OF_DAYS_REFUSED, **MARKS_OF_HUNDREDTHS})
 OLD_TEXT = Settled(text_2015_cases.KINDS, "batch2015", "marks2015", MARKS)
 
 

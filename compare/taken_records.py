@@ -6,7 +6,7 @@ from array import array
 
 from accepted import LARGEST, all_months, month_in_form
 from complex_records import ComplexRecord, average_of, peak_of
-from drawing import capacity, draw_month, draw_sheet, flat, spread, with_average
+from drawing import capacity, draw_month, draw_sheet, flat, spread, with_sum
 from powers import AMONG, AT_MOST, draw_hour
 from records import CONTROL_HOURS, MOST_CONSUMERS, TOP_CAPACITY, Month
 from versions import in_version
@@ -18,7 +18,7 @@ def some_sheet(rng, month=None, consumers=None):
     """Consumers alone, one or more, in a month that as a rule has control days."""
     if consumers is None:
         consumers = rng.choice((1, 2, 2, 3, 4, rng.randrange(1, MOST_CONSUMERS), MOST_CONSUMERS))
-    return in_version(rng, draw_sheet(rng, 0, 0, consumers, month or draw_month(rng, with_control_day=True)))
+    return in_version(rng, draw_sheet(rng, 0, 0, consumers, month or draw_month(rng, control_days=1)))
 
 
 def some_consumer(rng, sheet):
@@ -75,7 +75,8 @@ RESTS = {
 
 
 def net_with_rest(rng, month, rest, average=None):
-    return with_average(rng, month, average or some_average(rng), RESTS[rest](len(month.control_hours())))
+    count = len(month.control_hours())
+    return with_sum(rng, month, count * (average or some_average(rng)) + RESTS[rest](count))
 
 
 def rounding(rest):
@@ -185,9 +186,9 @@ SINGLED_OUT.update({
 def singled_out(hours_of):
     """Net power is high in these hours and low in all others, or the other way round."""
     def draw(rng):
-        month = draw_month(rng, with_control_day=True)
+        month = draw_month(rng, control_days=1)
         while not hours_of(month):
-            month = draw_month(rng, with_control_day=True)
+            month = draw_month(rng, control_days=1)
         sheet = some_sheet(rng, month)
         low, high = (0, 100), (20_000, TOP_CAPACITY)
         usual, other = rng.choice(((low, high), (high, low)))

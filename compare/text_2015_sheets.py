@@ -5,7 +5,7 @@ with the length of the result buffer.
 """
 import bands
 from bands import SIDES, consumers_at, excess_at
-from drawing import capacity, draw_price, draw_sheet, full_producer
+from drawing import draw_price, draw_sheet, full_producer
 from records import (LOWEST_Z, MOST_CONSUMERS, TOP_CAPACITY, TOP_PRICE, TOP_Z, Row, result_2015_length, result_length)
 from refused import accepted_sheet
 

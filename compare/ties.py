@@ -5,9 +5,9 @@ They are made so that a wrong rounding shows in the result and is not lost in a 
 from array import array
 from math import gcd
 
-from bands import k1_sheet
-from drawing import (draw_month, draw_price, flat, full_producer, in_parts, one_row_sheet, plain_consumer, spread,
-                     with_average)
+from bands import P_OF_FACTOR, deductibles_for, half_sheet, k1_sheet, little_support, some_support
+from drawing import (HUNDREDTHS, draw_month, draw_price, flat, full_producer, in_parts, one_row_sheet, plain_consumer,
+                     spread, with_average)
 from records import ONE, SINGLE_BUYER, TOP_CAPACITY, TOP_PRICE, TOP_Z, Row, Sheet
 
 # No half can occur in k2 and k5: a half millionth asks that 24 × days has a power of 2 one higher than a million has,
@@ -35,18 +35,16 @@ def coprime_volume(rng):
 
 
 def tie_average(rng):
-    month = draw_month(rng, with_control_day=True)
-    producer = full_producer(month)
-    excess = rng.randrange(10, 5000)
-    producer.deductible = excess * rng.choice((0, 1, 2, 3, 4, 8))
-    producer.outside = with_average(rng, month, producer.deductible + excess, len(month.control_hours()) // 2)
-    return one_row_sheet(rng, month, producer, rng.randrange(4 * excess, TOP_CAPACITY))
+    """Half a hundredth."""
+    overuse = rng.randrange(1, 3000)
+    deductible = overuse * rng.choice((0, 1, 2, 3, 4, 8)) // HUNDREDTHS
+    return half_sheet(rng, deductible, overuse, little_support(rng, overuse))
 
 
 def tie_p_of_k1(rng):
-    times = rng.randrange(1, 30)
-    deductible, excess = 2000 * times, rng.randrange(1, 1400, 2) * times
-    return k1_sheet(rng, deductible, deductible + excess, rng.randrange(2 * excess, TOP_CAPACITY + 1))
+    times = rng.randrange(1, 290)
+    overuse = rng.randrange(1, 1400, 2) * times
+    return k1_sheet(rng, 200 * times, overuse, some_support(rng, overuse))
 
 
 def tie_p_of_consumer(rng):
@@ -56,16 +54,18 @@ def tie_p_of_consumer(rng):
 
 
 def tie_k1(rng):
-    """D over T is an odd number of 64ths (of 256ths where n is 2.0): k1 ends in a half millionth."""
-    month = draw_month(rng, with_control_day=True)
-    n = rng.choice((13, 15, 17, 20))
-    times = {13: (8, 10), 15: (3, 4), 17: (2,), 20: (0, 1)}[n]  # the deductible is so many times the excess
-    unit, odd = rng.randrange(1, 60), rng.randrange(1, 38, 2)
-    excess, support = unit * odd, unit * (256 if n == 20 else 64)
+    """D in hundredths over T in tenths is an odd number of 32nds (of 128ths where n is 2.0): k1 ends in a half
+    millionth."""
+    month = draw_month(rng, control_days=2)
+    deductibles = ()
+    while not deductibles:
+        n, unit, odd = rng.choice(list(P_OF_FACTOR)), rng.randrange(1, 120), rng.randrange(1, 150, 2)
+        overuse, support = unit * odd, unit * (128 if n == 20 else 32)
+        deductibles = deductibles_for(n, overuse)
     producer = full_producer(month)
-    producer.deductible = excess * rng.choice(times)
-    producer.outside = with_average(rng, month, producer.deductible + excess)
-    k1 = ONE - 100_000 * n * excess // support  # the penalty rounded down, so k1 upward
+    producer.deductible = rng.choice(deductibles)
+    producer.outside = with_average(rng, month, HUNDREDTHS * producer.deductible + overuse)
+    k1 = ONE - 10_000 * n * overuse // support  # the penalty rounded down, so k1 upward
     rows = [Row(0, SINGLE_BUYER, part, draw_price(rng)) for part in in_parts(rng, support)]
     rows.append(Row(0, 0, telling_volume(rng, k1), draw_price(rng)))
     return Sheet(month, [producer], rows, [plain_consumer(rng, 5000, 6000)])
@@ -144,9 +144,9 @@ def set_half(rng, sheet, number):
     """Makes the coefficient with this number of k1 to k10 one half."""
     month, producer = sheet.month, sheet.producers[0]
     if number == 1:  # 2 × D is half of T
-        use = rng.randrange(1, 2000)
-        producer.outside = with_average(rng, month, use)
-        sheet.rows.append(Row(0, SINGLE_BUYER, 4 * use, draw_price(rng)))
+        times = rng.randrange(1, 4000)
+        producer.outside = with_average(rng, month, 5 * times)
+        sheet.rows.append(Row(0, SINGLE_BUYER, 2 * times, draw_price(rng)))
     elif number == 2:
         producer.missing[rng.randrange(2)] = month.hours // 2
     elif number == 4:
@@ -188,7 +188,7 @@ def sheet_before_half(rng, month, drawn):
 def order_of(drawn, half):
     """Two coefficients whose order shows: one is drawn, the other a half."""
     def draw(rng):
-        sheet = sheet_before_half(rng, draw_month(rng, with_control_day=True), drawn)
+        sheet = sheet_before_half(rng, draw_month(rng, control_days=2), drawn)
         set_half(rng, sheet, half)
         return sheet
     return draw
