@@ -1,7 +1,7 @@
 -- Where an average is a whole number of tenths, k1 in hundredths is k1 in tenths. Assumes nothing.
 use mathlib.Core.Path.{_≡_, refl, sym, ap, ap₂, _∙_}
 use Prim.Native.Nat.{ℕ, zero, suc, _-_, _*_, _<_}
-use native.Mathlib.Nat.{zero-lt-suc, mul-pos}
+use native.Mathlib.Nat.{zero-lt-suc, div-eq-of-lt-le}
 use native.Mathlib.Omega.{arith}
 use Rattle.rules.specs.declared.Header.{Header}
 use Rattle.rules.specs.Units.{rounded, one, tenth, hundredth, inHundredths, inThousandths}
@@ -9,19 +9,18 @@ use Rattle.rules.specs.Month.{Producer}
 use Rattle.rules.specs.ControlHours.{controlSum, controlCount, average, controlAverage}
 use Rattle.rules.specs.Bands.{bandOf, thousandths}
 use Rattle.rules.specs.Coefficients.{ratio, millionthsOf, overuse, penalty, lessPenalty, exactK1, k1}
-use Rattle.laws.proofs.Units.{rounded-exact, rounded-times}
+use Rattle.laws.proofs.Units.{Nearest, nearest, rounded-times}
 use Rattle.laws.proofs.Bands.{thousandths-times}
 use Rattle.laws.proofs.Coefficients.{ratio-some, penalty-of-none}
 use Rattle.theorems.specs.Request6.{tenthsOver, tenthsPenalty, lessTenthsPenalty, k1ByTenths, WholeTenths}
 
--- The average of a multiple is that multiple, and ten times as many hundredths.
-average-tenfold : (tenths n : ℕ) → average (hundredth * (tenths * n)) n ≡ average (tenth * (tenths * n)) n * 10
+-- What is rounded to a whole number of tenths at a hundredth is rounded to that number at a tenth.
+coarse : (s n tenths : ℕ) → average (hundredth * s) n ≡ tenths * 10 → average (tenth * s) n ≡ tenths
 unfolding average
-average-tenfold tenths zero = refl
-average-tenfold tenths (suc n) =
-    let fine : hundredth * (tenths * suc n) ≡ tenths * 10 * suc n = omega arith in
-    let coarse : tenth * (tenths * suc n) ≡ tenths * suc n = omega arith in
-    rw (fine, coarse, rounded-exact (tenths * 10) (zero-lt-suc n), rounded-exact tenths (zero-lt-suc n))
+coarse s zero tenths e = omega (arith, e)
+coarse s (suc n) tenths e =
+    let r : Nearest (hundredth * s) (suc n) (tenths * 10) = rw e at (nearest (hundredth * s) (suc n) (zero-lt-suc n)) in
+    unfold rounded in div-eq-of-lt-le (suc n) (omega (arith, r .from)) (omega (arith, r .below))
 
 -- Ten times the penalty, of T in thousandths, leaves the same part of it.
 penalty-tenfold : (T x : ℕ) → millionthsOf (lessPenalty T (x * 10)) ≡ millionthsOf (lessTenthsPenalty T x)
@@ -40,10 +39,7 @@ penalty-tenfold (suc T) x =
 module _ (h : Header) (p : Producer) (tenths : ℕ) (w : WholeTenths h p tenths) where
   over-tenfold : overuse h p ≡ tenthsOver h p * 10
   unfolding overuse tenthsOver controlAverage inHundredths
-  over-tenfold =
-      let e : average (hundredth * (tenths * controlCount h)) (controlCount h) ≡ average (tenth * (tenths * controlCount h)) (controlCount h) * 10 = average-tenfold tenths (controlCount h) in
-      let total : controlSum h (p .outsideUse) ≡ tenths * controlCount h = omega (arith, w) in
-      rw total (omega (arith, e))
+  over-tenfold = omega (arith, w, coarse (controlSum h (p .outsideUse)) (controlCount h) tenths w)
 
   penalties : penalty h p ≡ tenthsPenalty h p * 10
   unfolding penalty tenthsPenalty inHundredths

@@ -3,9 +3,9 @@ use Prim.Native.Nat.{ℕ, zero, suc, _-_, _*_}
 use mathlib.Core.Path.{_≡_}
 use Rattle.rules.specs.declared.Header.{Header}
 use Rattle.rules.specs.declared.Ratio.{Ratio}
-use Rattle.rules.specs.Units.{tenth}
+use Rattle.rules.specs.Units.{tenth, hundredth}
 use Rattle.rules.specs.Month.{Producer}
-use Rattle.rules.specs.ControlHours.{controlSum, controlCount, controlAverage}
+use Rattle.rules.specs.ControlHours.{controlAverage}
 use Rattle.rules.specs.Bands.{bandOf, thousandths}
 use Rattle.rules.specs.Coefficients.{ratio, millionthsOf}
 
@@ -24,6 +24,6 @@ lessTenthsPenalty (suc T) penalty = ratio (10 * suc T - penalty) (10 * suc T)
 unfoldable pub k1ByTenths : Header → Producer → ℕ → ℕ
 k1ByTenths h p T = millionthsOf (lessTenthsPenalty T (tenthsPenalty h p))
 
--- A producer's outside use is on average so many tenths, and nothing is left to round.
+-- A producer's control average, rounded to a hundredth, is so many tenths.
 abbrev pub WholeTenths : Header → Producer → ℕ → Type 0
-WholeTenths h p tenths = controlSum h (p .outsideUse) ≡ tenths * controlCount h
+WholeTenths h p tenths = controlAverage hundredth h (p .outsideUse) ≡ tenths * 10
