@@ -8,12 +8,13 @@ the text that the slip puts in its place. That text may name any definition, imp
 ACTUAL = "through (afterCut m j) (coefficients m (m .row j .producer)) (daysCovered (m .header .days) (m .row j))"
 IN_TENTHS = "toTenths (forDays covered (running (inMillionths volume) ks))"
 
-# Texts of Coefficients and Averaging: the average of outside use, the p of k1, a complex's peak. And D before it is
-# rounded, times the count of control hours.
+# Texts of Coefficients and Averaging: the average of outside use, the p of k1, a complex's peak. And D of the average
+# as it is, not rounded, times the count of control hours; the p of that D.
 USE_TO_A_HUNDREDTH = "controlAverage hundredth h (p .outsideUse)"
 P_OF_K1 = "thousandths (overuse h p) (inHundredths (p .deductible))"
 COMPLEX_PEAK = "controlAverage tenth h (net r) - imported r"
 NOT_ROUNDED = "(hundredth * controlSum h (p .outsideUse) - inHundredths (p .deductible) * controlCount h)"
+P_NOT_ROUNDED = f"thousandths {NOT_ROUNDED} (inHundredths (p .deductible) * controlCount h)"
 
 # Deductible capacity in tenths beside hundredths, in D and in p; and the text of Units before the count of thousandths.
 TENTHS_IN_D = "Coefficients", "- inHundredths (p .deductible)", "- p .deductible"
@@ -94,8 +95,12 @@ SLIPS = [
     ("k1 of the average as it is, not rounded",
      ("Coefficients",
       "lessPenalty T (penalty h p)",
-      f"lessPenalty (T * controlCount h) (bandOf (thousandths {NOT_ROUNDED} (inHundredths (p .deductible) * "
-      f"controlCount h)) * {NOT_ROUNDED})")),
+      f"lessPenalty (T * controlCount h) (bandOf ({P_NOT_ROUNDED}) * {NOT_ROUNDED})")),
+    ("p from the average as it is, not rounded", ("Coefficients", P_OF_K1, P_NOT_ROUNDED)),
+    ("n × D from the average as it is, not rounded",
+     ("Coefficients",
+      "lessPenalty T (penalty h p)",
+      f"lessPenalty (T * controlCount h) (bandOf ({P_OF_K1}) * {NOT_ROUNDED})")),
     ("k1's ratio rounded, then taken from 1",
      ("Coefficients", "k1 h p T = millionthsOf (exactK1 h p T)", "k1 h p T = cond (eqb T 0) (millionthsOf (exactK1 h p T)) (one - share (penalty h p) (inThousandths T))")),
     ("the band of k1 over T",
