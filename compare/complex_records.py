@@ -6,7 +6,7 @@ import struct
 from array import array
 from dataclasses import dataclass
 
-from records import COMPLEX_FRONT, COMPLEX_PACKING, CONSUMER_PACKING, Header
+from records import COMPLEX_FRONT, COMPLEX_PACKING, CONSUMER_PACKING, TENTH, Header
 
 PEAK = slice(4, 8)    # of a consumer's bytes
 
@@ -32,7 +32,7 @@ class ComplexRecord:
 
 def average_of(month, record):
     """The average of net power over the control hours, rounded to a tenth; 0 without a control day."""
-    return month.control_average([max(0, drawn - sent) for drawn, sent in zip(record.drawn, record.sent)])
+    return month.control_average([max(0, drawn - sent) for drawn, sent in zip(record.drawn, record.sent)], TENTH)
 
 
 def peak_of(month, record):

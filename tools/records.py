@@ -205,7 +205,7 @@ class Month(NamedTuple):
                 found.extend(24 * day + hour for hour in CONTROL_HOURS)
         return found
 
-    def control_average(self, powers, fineness=TENTH):
+    def control_average(self, powers, fineness):
         """The average of hourly powers over the control hours, in units of this fineness, a half upward; 0 if there is
         no such hour."""
         control = self.control_hours()

@@ -5,25 +5,25 @@ ghost use Rattle.rules.specs.Text2015.{bands2015};
 use rules::Band;
 use units::nearest;
 
-// So many parts over a reference; over a reference of 0 any are the figure that is given for it. Who asks takes an excess so many times as
-// there are parts in a whole, and knows that the product fits.
-pub fn parts_of(beyond: u64, parts: u64, reference: u64) -> u64
-    ensures { λ r. ⌜ r ≡ partsOf 1 beyond parts reference ⌝ }
+// An excess in parts of a reference; over a reference of 0 any excess is the figure that is given for it. The caller takes the excess so
+// many times as a whole has parts, since it knows that the product fits.
+pub fn parts_of(beyond: u64, times: u64, reference: u64) -> u64
+    ensures { λ r. ⌜ r ≡ partsOf beyond times reference ⌝ }
 {
     if reference == 0 {
-        if parts == 0 {
+        if times == 0 {
             return 0;
         }
         return beyond;
     }
-    nearest(parts, reference)
+    nearest(times, reference)
 }
 
-// An excess, taken a thousand times, in thousandths of a reference; over a reference of 0 any excess is past the fourth band.
-pub fn thousandths(thousandfold: u64, reference: u64) -> u64
-    ensures { λ r. ⌜ r ≡ partsOf 1 501 thousandfold reference ⌝ }
+// The same of an excess taken a thousand times: thousandths; over a reference of 0 any excess is past the fourth band.
+pub fn thousandths(times: u64, reference: u64) -> u64
+    ensures { λ r. ⌜ r ≡ partsOf 501 times reference ⌝ }
 {
-    parts_of(501, thousandfold, reference)
+    parts_of(501, times, reference)
 }
 
 // The band table of document 01, in thousandths. The last row is open above: its edge is not looked at.

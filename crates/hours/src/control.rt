@@ -68,7 +68,12 @@ fn control_hours(part: &[u8], x: Hourly, days: u8, control: ControlDays) -> Cont
     }
 }
 
-// Their sum by their count, in units of which so many are a tenth.
+// The units that an average is rounded to, as how many of them make a tenth.
+const TENTH: u64 = 1;
+
+const HUNDREDTH: u64 = 10;
+
+// Their sum by their count, in units of which so many make a tenth.
 fn average_of(control: Control, fineness: u64) -> u64
     requires { ⌜ (control .counted .0 ≤ mostWord * control .count) × (control .count ≤ 186) × (fineness ≤ 10) ⌝ }
     ensures { λ r. ⌜ r ≡ average (fineness * control .counted .0) (control .count) ⌝ }
@@ -81,7 +86,7 @@ fn average_of(control: Control, fineness: u64) -> u64
 pub fn average_to_tenth(part: &[u8], x: Hourly, days: u8, control: ControlDays) -> Tenths
     ensures { λ r. ⌜ r .0 ≡ averageIn tenth (now (part .entry)) x days (control .on) ⌝ }
 {
-    Tenths(average_of(control_hours(part, x, days, control), 1))
+    Tenths(average_of(control_hours(part, x, days, control), TENTH))
 }
 
 // The same to a hundredth.
@@ -89,5 +94,5 @@ pub fn average_to_hundredth(part: &[u8], x: Hourly, days: u8, control: ControlDa
     ensures { λ r. ⌜ r .0 ≡ averageIn hundredth (now (part .entry)) x days (control .on) ⌝ }
     ensures fits { λ r. ⌜ r .0 ≤ 10 * mostWord ⌝ }
 {
-    Hundredths(average_of(control_hours(part, x, days, control), 10))
+    Hundredths(average_of(control_hours(part, x, days, control), HUNDREDTH))
 }

@@ -1,4 +1,4 @@
--- No coefficient is above 1. Assumes nothing.
+-- Averages, shares and k1 as rounded quotients; no coefficient is above 1. Assumes nothing.
 use mathlib.Core.Path.{_≡_, refl, sym, ap, _∙_}
 use mathlib.Core.List.{List, [], _∷_}
 use Prim.Native.Nat.{ℕ, zero, suc, zero-le, _-_, _*_, _≤_, _<_}
@@ -43,11 +43,11 @@ unfolding lessPenalty
 penalty-of-some zero x l = absurd (omega arith)
 penalty-of-some (suc T) x l = refl
 
--- So k1 of some T: n × D and T in thousandths of a megawatt, the quotient in millionths, divided by the tenths of T.
-pub penalty-rounded : (T x : ℕ) → 0 < T → millionthsOf (lessPenalty T x) ≡ rounded (10000 * (100 * T - x)) T
+-- So k1 of some T, with a hundred taken out of T in thousandths and out of the million.
+pub penalty-rounded : (T x : ℕ) → 0 < T → millionthsOf (lessPenalty T x) ≡ rounded ((inThousandths T - x) * 10000) T
 unfolding inThousandths
 penalty-rounded T x l =
-    let part : (T * 100 - x) * one ≡ 10000 * (100 * T - x) * 100 = omega arith in
+    let part : (T * 100 - x) * one ≡ (T * 100 - x) * 10000 * 100 = omega arith in
     ap millionthsOf (penalty-of-some T x l) ∙ ratio-some _ (omega (arith, l)) ∙ ap (λ (n : ℕ). rounded n (T * 100)) part ∙ rounded-times 100 _ T (omega arith) l
 
 -- A share of a part is at most 1.

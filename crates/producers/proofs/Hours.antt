@@ -28,7 +28,7 @@ use Rattle.hours.specs.Series.{stands, powerIn, hourlyStands}
 use Rattle.hours.specs.Sums.{k4In}
 use Rattle.hours.specs.Control.{averageIn}
 use Rattle.hours.proofs.Known.{average-known}
-use Rattle.producers.specs.Terms.{penaltyOf}
+use Rattle.producers.specs.Terms.{penaltyFrom}
 
 module _ (l : Layout) (s : List ℕ) (p : ℕ) (fits : hoursAt l p + hoursWidth (l .header) ≤ length s) {part : List ℕ} (lent : part ≡ within (stretchIn l (length s) p) s) where
   there : part ≡ take (hoursWidth (l .header)) (drop (hoursAt l p) s)
@@ -77,7 +77,7 @@ module _ (l : Layout) (s : List ℕ) (p : ℕ) (fits : hoursAt l p + hoursWidth 
         (unfold hourlyStands in standing (hourSeries l .outside) refl (omega arith)) (read (hourSeries l .outside) refl (omega arith)) hundredth
 
     pub k1-known : {a r : ℕ} {x : Stated} (T : ℕ) → a ≡ averageIn hundredth part (Hourly.Power (hourSeries l .outside)) (l .header .days) on → x ≡ statedOf s (producerAt l p)
-        → r ≡ millionthsOf (lessPenalty T (penaltyOf a (x .deductible)))
+        → r ≡ millionthsOf (lessPenalty T (penaltyFrom a (x .deductible)))
         → r ≡ k1 (l .header) (producerUnder l s p) T
     unfolding k1 exactK1 penalty overuse
     k1-known T averaged stated is = rw (is, average averaged, stated)

@@ -24,8 +24,8 @@ abbrev pub mostPart : ℕ
 mostPart = 18446744073709
 
 -- n × D of k1, from the control average in hundredths and the deductible capacity in tenths. [Coefficients, k1; Requests, 6]
-abbrev pub penaltyOf : ℕ → ℕ → ℕ
-penaltyOf average deductible =
+abbrev pub penaltyFrom : ℕ → ℕ → ℕ
+penaltyFrom average deductible =
     bandOf (thousandths (average - inHundredths deductible) (inHundredths deductible)) * (average - inHundredths deductible)
 
 -- k1 to k10 in order, from a producer's stated figures, from k1, and from k4 before it is rounded. [Coefficients]

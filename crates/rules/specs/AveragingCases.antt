@@ -75,6 +75,8 @@ peakCases =
     ∷ figure (monday 0 (atHour 23 100000 (every 1000)) (every 300)) 700
     ∷ figure (monday 0 (atHour 17 100000 (every 1000)) (every 300)) 17200
     ∷ figure (monday 0 (atHour 22 100000 (every 1000)) (every 300)) 17200
+    -- rounded once: four days from a Monday, 777 bytes, with 0.1 more in 11 of the 24 control hours, 70.0458. By way of 70.05 it would be 70.1
+    ∷ figure (complexPeak (monthFrom 4 1 0) (recordOf 777 1 0 96 (firstHours 46 1001 (every 1000)) (every 300))) 700
     -- the highest: 10,000.0 drawn in every hour and nothing sent out
     ∷ figure (monday 0 (every 100000) (every 0)) 100000
     -- no control day: a Saturday; a Monday that is a holiday

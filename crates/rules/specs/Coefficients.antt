@@ -27,8 +27,8 @@ millionthsOf r = share (r .part) (r .whole)
 unfoldable pub overuse : Header → Producer → ℕ
 overuse h p = controlAverage hundredth h (p .outsideUse) - inHundredths (p .deductible)
 
--- n × D of k1: n is the band of D over deductible, in tenths, so the product is in thousandths of a megawatt. [Coefficients, k1; Requests, 6;
--- A2 p. 1]
+-- n × D of k1: n is the band of D over deductible, in tenths, so the product is in thousandths of a megawatt. [Coefficients, k1;
+-- Requests, 6; A2 p. 1]
 unfoldable pub penalty : Header → Producer → ℕ
 penalty h p = bandOf (thousandths (overuse h p) (inHundredths (p .deductible))) * overuse h p
 

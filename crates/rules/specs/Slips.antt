@@ -1,5 +1,6 @@
 -- Months of our own, worked out by hand from document 01: each slip, band edge, zero rule and half gives another figure where it is got wrong.
--- Figures are in the unit's whole numbers: tenths of a megawatt, thousandths for p, tenths for n, millionths for coefficients, tiyn.
+-- Figures are in the unit's whole numbers: tenths of a megawatt, hundredths for averages of outside use, thousandths for p, tenths for n,
+-- millionths for coefficients, tiyn.
 use Prim.Native.Nat.{ℕ}
 use mathlib.Core.List.{List, [], _∷_, _++_}
 use Rattle.rules.specs.Units.{one, millionthsCeiling, tenth, hundredth}
@@ -53,13 +54,17 @@ controlHourFigures =
 
 -- k1 ------------------------------------------------------------------------------------------------------------------------------------
 
--- A producer with T, deductible and outside use the same in every hour, so that the control average is that use.
-unfoldable pub k1Month : ℕ → ℕ → ℕ → Month
-k1Month T deductible outside =
-    month 30 1 0
-    (producer 100000 deductible 0 0 0 0 [] (every 0) (every 0) (every outside) ∷ [])
+-- A producer with T, deductible and outside use, in so many days from a Monday.
+unfoldable pub outsideMonth : ℕ → ℕ → ℕ → (ℕ → ℕ) → Month
+outsideMonth days T deductible outside =
+    month days 1 0
+    (producer 100000 deductible 0 0 0 0 [] (every 0) (every 0) outside ∷ [])
     (row 0 255 T 0 ∷ [])
     []
+
+-- The same with outside use alike in every hour of 30 days, so that the control average is that use.
+abbrev k1Month : ℕ → ℕ → ℕ → Month
+k1Month T deductible outside = outsideMonth 30 T deductible (every outside)
 
 -- The same without a support row: its one row is bilateral, so T is 0.
 unfoldable pub noSupportMonth : ℕ → ℕ → Month
@@ -363,7 +368,7 @@ slips = controlHourFigures ++ k1Figures ++ hourFigures ++ rowFigures ++ consumer
 
 -- All at once, by computation: no figure is wrong.
 pub no-slip : wrong slips ≡ []
-unfolding settlement useMonth controlHourFigures k1Month noSupportMonth k1Figures hoursMonth powerMonth hourFigures cutMonth soldMonth orderMonth rowMonth rowFigures peakMonth consumerFigures creditMonth creditFigures slips
+unfolding settlement useMonth controlHourFigures outsideMonth noSupportMonth k1Figures hoursMonth powerMonth hourFigures cutMonth soldMonth orderMonth rowMonth rowFigures peakMonth consumerFigures creditMonth creditFigures slips
 no-slip = refl
 
 -- The cut of a month's first producer as it is told, row by row: 85.0 from its own rows of 60.0, 40.0 and 20.0.

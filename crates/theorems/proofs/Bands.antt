@@ -49,12 +49,12 @@ over-nothing-mono beyond zero F h = zero-le
 over-nothing-mono beyond (suc e) zero h = absurd (not-suc-le-zero h)
 over-nothing-mono beyond (suc e) (suc f) h = le-refl beyond
 
-pub parts-mono : (whole beyond Q : ℕ) {E F : ℕ} → E ≤ F → partsOf whole beyond E Q ≤ partsOf whole beyond F Q
+pub parts-mono : (beyond Q : ℕ) {E F : ℕ} → E ≤ F → partsOf beyond E Q ≤ partsOf beyond F Q
 unfolding partsOf
-parts-mono whole beyond zero {E} {F} h = over-nothing-mono beyond E F h
-parts-mono whole beyond (suc q) h = rounded-mono (suc q) (mul-le-mul-right whole h)
+parts-mono beyond zero {E} {F} h = over-nothing-mono beyond E F h
+parts-mono beyond (suc q) h = rounded-mono (suc q) h
 
 -- In thousandths, over a reference by one name or two.
 pub thousandths-mono : {Q Q′ E F : ℕ} → Q ≡ Q′ → E ≤ F → thousandths E Q ≤ thousandths F Q′
 unfolding thousandths
-thousandths-mono {Q′ = Q} e h = rw e (parts-mono 1000 501 Q h)
+thousandths-mono {Q′ = Q} e h = rw e (parts-mono 501 Q (mul-le-mul-right 1000 h))

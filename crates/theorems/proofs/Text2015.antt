@@ -36,7 +36,7 @@ bands-2015-rise = tt
 pub factor-for-mono : (contract : ℕ) {x y : ℕ} → x ≤ y → factorFor contract x ≤ factorFor contract y
 unfolding factorFor excessOf
 factor-for-mono contract h =
-    larger-excess-no-smaller-factor bands2015 bands-2015-rise _ _ (parts-mono 10000 2001 contract (omega arith))
+    larger-excess-no-smaller-factor bands2015 bands-2015-rise _ _ (parts-mono 2001 contract (omega arith))
 
 pub volume-for-mono : (contract : ℕ) {x y : ℕ} → x ≤ y → volumeFor contract x ≤ volumeFor contract y
 unfolding volumeFor

@@ -1,6 +1,6 @@
--- Where an average is a whole number of tenths, k1 in hundredths is k1 in tenths. Assumes nothing.
+-- Where an average is rounded to a whole number of tenths, k1 in hundredths is k1 in tenths. Assumes nothing.
 use mathlib.Core.Path.{_≡_, refl, sym, ap, ap₂, _∙_}
-use Prim.Native.Nat.{ℕ, zero, suc, _-_, _*_, _<_}
+use Prim.Native.Nat.{ℕ, zero, suc, _-_, _*_}
 use native.Mathlib.Nat.{zero-lt-suc, div-eq-of-lt-le}
 use native.Mathlib.Omega.{arith}
 use Rattle.rules.specs.declared.Header.{Header}
