@@ -37,7 +37,7 @@ def sheet_lines(content, names=NO_NAMES):
     header, sheet = Header.from_bytes(content), Sheet.from_bytes(content)
     of_row = row_fields(header.version)
     hours = (f"Hours, the powers of {header.month.hours} hours summed, in MWh; "
-             "outside use averaged over control hours, and D of k1, in MW; percent and n")
+             "control average of outside use and D, in MW; D in percent of deductible; n")
     for title, heads, records, kind, cells_of in (
         ("Producers, in MW; counts of hours; coefficients", PRODUCER_HEADS, sheet.producers, "producer",
          lambda producer: cells(PRODUCER_FIELDS, producer)),

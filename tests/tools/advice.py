@@ -185,8 +185,8 @@ def test_named():
                  "0 Northern plant  80352.0   81840.0   7440.0            120            10.00  0.00      0.0  0.0",
                  "  1  0 Northern plant  1 Rolling mill    20.0  590000.00"):
         check(line in lines, f"show: {line}", words_of(done))
-    title = ("Hours, the powers of 744 hours summed, in MWh; outside use averaged over control hours, and D of k1, in "
-             "MW; percent and n")
+    title = ("Hours, the powers of 744 hours summed, in MWh; control average of outside use and D, in MW; "
+             "D in percent of deductible; n")
     check(title in lines, "show: the units of the hours", words_of(done))
     done = sheet("explain", EXAMPLES / "refused-9.toml")
     check(done.stdout.decode().splitlines()[1].startswith("producer 0, hour 431 (day 18, 23:00), possible power, "),

@@ -262,6 +262,7 @@ version-2-there s form first =
 
 -- Request 6: outside use to a hundredth ------------------------------------------------------------------------------------------------
 
--- A producer whose outside use is on average a whole number of tenths has the k1 that it had when the average was rounded to a tenth.
+-- A producer whose control average, rounded to a hundredth, is a whole number of tenths has the k1 that it had when the average was
+-- rounded to a tenth.
 pub whole-tenths-same : (h : Header) (p : Producer) (tenths : ℕ) → WholeTenths h p tenths → (T : ℕ) → k1 h p T ≡ k1ByTenths h p T
 whole-tenths-same = WholeTenths.same
