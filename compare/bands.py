@@ -1,9 +1,9 @@
 """Sheets at the edges of the bands, and at the zero rules beside them, for k1 and for consumers."""
 from math import gcd
 
-from drawing import (HUNDREDTHS, draw_mining_days, draw_month, draw_price, full_producer, in_parts, plain_consumer,
-                     sums_of, with_average, with_sum)
-from records import LOWEST_Z, MOST_CONSUMERS, SINGLE_BUYER, TOP_CAPACITY, TOP_Z, Row, Sheet, rounded
+from drawing import (draw_mining_days, draw_month, draw_price, full_producer, in_parts, plain_consumer, sums_of,
+                     with_average, with_sum)
+from records import HUNDREDTH, LOWEST_Z, MOST_CONSUMERS, SINGLE_BUYER, TOP_CAPACITY, TOP_Z, Row, Sheet, rounded
 
 EDGES = (50, 200, 400, 500)
 
@@ -71,16 +71,16 @@ def outside_sheet(rng, month, deductible, outside, support):
 def k1_sheet(rng, deductible, overuse, support):
     """The same by D in hundredths; below 0, the control average is so much below the deductible."""
     month = draw_month(rng, control_days=2)
-    outside = with_average(rng, month, HUNDREDTHS * deductible + overuse)
+    outside = with_average(rng, month, HUNDREDTH * deductible + overuse)
     return outside_sheet(rng, month, deductible, outside, support)
 
 
 def half_sheet(rng, deductible, overuse, support):
     """The same with a control average half a hundredth below the one that is rounded."""
-    twice = 2 * (HUNDREDTHS * deductible + overuse) - 1
+    twice = 2 * (HUNDREDTH * deductible + overuse) - 1
     while True:
         month = draw_month(rng, control_days=1)
-        total, rest = divmod(len(month.control_hours()) * twice, 2 * HUNDREDTHS)
+        total, rest = divmod(len(month.control_hours()) * twice, 2 * HUNDREDTH)
         if rest == 0:
             return outside_sheet(rng, month, deductible, with_sum(rng, month, total), support)
 
@@ -109,9 +109,9 @@ def other_side_by_tenth(edge, above):
             month, deductible = draw_month(rng, control_days=2), rng.randrange(1, 61)
             last = last_excess(edge, deductible, WHOLE)
             overuse = last + rng.randrange(1, 6) if above else max(0, last - rng.randrange(6))
-            total = rng.choice(sums_of(month, HUNDREDTHS * deductible + overuse))
+            total = rng.choice(sums_of(month, HUNDREDTH * deductible + overuse))
             tenths = rounded(total, len(month.control_hours())) - deductible
-            if (HUNDREDTHS * tenths <= last) == above:
+            if (HUNDREDTH * tenths <= last) == above:
                 outside = with_sum(rng, month, total)
                 return outside_sheet(rng, month, deductible, outside, little_support(rng, overuse))
     return draw
@@ -150,7 +150,7 @@ def no_deductible_half_a_hundredth(rng):
 
 def use_below_deductible(rng):
     deductible = rng.randrange(1, 50_000)
-    below = rng.choice((0, 1, rng.randrange(HUNDREDTHS * deductible + 1)))
+    below = rng.choice((0, 1, rng.randrange(HUNDREDTH * deductible + 1)))
     return k1_sheet(rng, deductible, -below, rng.randrange(50_000))
 
 
@@ -181,13 +181,13 @@ def no_support_no_penalty(rng):
 
 def penalty_above_all(rng):
     deductible = rng.randrange(100, 20_000)
-    return k1_sheet(rng, deductible, HUNDREDTHS * deductible + rng.randrange(10), rng.randrange(1, 2 * deductible))
+    return k1_sheet(rng, deductible, HUNDREDTH * deductible + rng.randrange(10), rng.randrange(1, 2 * deductible))
 
 
 def small_deductible(rng):
     """p takes large steps here too."""
     deductible = rng.randrange(1, 60)
-    return k1_sheet(rng, deductible, rng.randrange(HUNDREDTHS * (deductible + 2)), rng.randrange(200))
+    return k1_sheet(rng, deductible, rng.randrange(HUNDREDTH * (deductible + 2)), rng.randrange(200))
 
 
 PAST = {"is_all": 0, "a_thousandth_more": 1, "a_thousandth_less": -1, "a_hundredth_more": 10, "a_hundredth_less": -10,

@@ -5,10 +5,8 @@ The functions take a random.Random; the same state of it gives the same part.
 import struct
 from array import array
 
-from records import (CONTROL_HOURS, LOWEST_Z, ONE, SINGLE_BUYER, TOP_CAPACITY, TOP_PRICE, TOP_Z, Consumer, Month,
-                     Producer, Row, Sheet)
-
-HUNDREDTHS = 10    # in a tenth
+from records import (CONTROL_HOURS, HUNDREDTH, LOWEST_Z, ONE, SINGLE_BUYER, TOP_CAPACITY, TOP_PRICE, TOP_Z, Consumer,
+                     Month, Producer, Row, Sheet)
 
 
 def draw_month(rng, control_days=0):
@@ -166,7 +164,7 @@ def sums_of(month, average):
     """The sums over the control hours whose average, rounded to a hundredth, is so many of them. From two control days
     on every average has such a sum."""
     count = len(month.control_hours())
-    least, past = (-(-count * (2 * average + half) // (2 * HUNDREDTHS)) for half in (-1, 1))
+    least, past = (-(-count * (2 * average + half) // (2 * HUNDREDTH)) for half in (-1, 1))
     return range(max(0, least), past)
 
 

@@ -6,9 +6,9 @@ from array import array
 from math import gcd
 
 from bands import P_OF_FACTOR, deductibles_for, half_sheet, k1_sheet, little_support, some_support
-from drawing import (HUNDREDTHS, draw_month, draw_price, flat, full_producer, in_parts, one_row_sheet, plain_consumer,
-                     spread, with_average)
-from records import ONE, SINGLE_BUYER, TOP_CAPACITY, TOP_PRICE, TOP_Z, Row, Sheet
+from drawing import (draw_month, draw_price, flat, full_producer, in_parts, one_row_sheet, plain_consumer, spread,
+                     with_average)
+from records import HUNDREDTH, ONE, SINGLE_BUYER, TOP_CAPACITY, TOP_PRICE, TOP_Z, Row, Sheet
 
 # No half can occur in k2 and k5: a half millionth asks that 24 × days has a power of 2 one higher than a million has,
 # which is the sixth; 24 × days has at most the fifth (28 days). So these two get the nearest rounding only.
@@ -37,7 +37,7 @@ def coprime_volume(rng):
 def tie_average(rng):
     """Half a hundredth."""
     overuse = rng.randrange(1, 3000)
-    deductible = overuse * rng.choice((0, 1, 2, 3, 4, 8)) // HUNDREDTHS
+    deductible = overuse * rng.choice((0, 1, 2, 3, 4, 8)) // HUNDREDTH
     return half_sheet(rng, deductible, overuse, little_support(rng, overuse))
 
 
@@ -64,7 +64,7 @@ def tie_k1(rng):
         deductibles = deductibles_for(n, overuse)
     producer = full_producer(month)
     producer.deductible = rng.choice(deductibles)
-    producer.outside = with_average(rng, month, HUNDREDTHS * producer.deductible + overuse)
+    producer.outside = with_average(rng, month, HUNDREDTH * producer.deductible + overuse)
     k1 = ONE - 10_000 * n * overuse // support  # the penalty rounded down, so k1 upward
     rows = [Row(0, SINGLE_BUYER, part, draw_price(rng)) for part in in_parts(rng, support)]
     rows.append(Row(0, 0, telling_volume(rng, k1), draw_price(rng)))

@@ -73,7 +73,7 @@ const TENTH: u64 = 1;
 
 const HUNDREDTH: u64 = 10;
 
-// Their sum by their count, in units of which so many make a tenth.
+// The sum over the control hours by their count, in units of which so many make a tenth.
 fn average_of(control: Control, fineness: u64) -> u64
     requires { ⌜ (control .counted .0 ≤ mostWord * control .count) × (control .count ≤ 186) × (fineness ≤ 10) ⌝ }
     ensures { λ r. ⌜ r ≡ average (fineness * control .counted .0) (control .count) ⌝ }
