@@ -36,8 +36,8 @@ highRecord h r = oneOf (tooHigh (imported r) ∷ any (highAt r) (hours h) ∷ []
 unfoldable pub net : List ℕ → ℕ → ℕ
 net r hour = drawn r hour - sent r hour
 
--- The peak: the control average of net power, rounded once, to a tenth, less imported power, not below 0. Without a control day the average is 0,
--- and so is the peak. [Control hours; Requests, 6]
+-- The peak: the control average of net power, rounded once, to a tenth, less imported power, not below 0. Without a control day the
+-- average is 0, and so is the peak. [Control hours; Requests, 6]
 unfoldable pub complexPeak : Header → List ℕ → ℕ
 complexPeak h r = controlAverage tenth h (net r) - imported r
 

@@ -56,7 +56,7 @@ module _ (m : Month) (k : ℕ → Consumer) where
   unfolding totalPaid afterCut leftToCut excess summedCapacity supportVolume bilateralVolume ownSupport ownBilateral ownVolume owns support bilateral coefficients actual payment
   paid-kept = refl
 
--- The control average of figures up to a ceiling is not above it, rounded to whatever.
+-- The control average of figures up to a ceiling is not above it, whatever it is rounded to.
 sum-times : (f g : ℕ → ℕ) (k n : ℕ) → ((i : ℕ) → i < n → f i ≤ k * g i) → sum f n ≤ k * sum g n
 unfolding sum
 sum-times f g k zero h = zero-le

@@ -34,7 +34,7 @@ unfolding average
 average-mono zero h = zero-le
 average-mono (suc n) h = rounded-mono (suc n) h
 
--- A series that is nowhere lower has no lower control average, rounded to whatever.
+-- A series that is nowhere lower has no lower control average, whatever it is rounded to.
 pub control-average-mono : (fineness : ℕ) (h : Header) (f g : ℕ → ℕ) → ((i : ℕ) → i < hours h → f i ≤ g i)
     → controlAverage fineness h f ≤ controlAverage fineness h g
 unfolding controlAverage
