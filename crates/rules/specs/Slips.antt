@@ -62,14 +62,14 @@ outsideMonth days T deductible outside =
     (row 0 255 T 0 ∷ [])
     []
 
--- The same with outside use alike in every hour of 30 days, so that the control average is that use.
+-- The same on one Monday, with outside use alike in every hour, so that the control average is that use.
 abbrev k1Month : ℕ → ℕ → ℕ → Month
-k1Month T deductible outside = outsideMonth 30 T deductible (every outside)
+k1Month T deductible outside = outsideMonth 1 T deductible (every outside)
 
 -- The same without a support row: its one row is bilateral, so T is 0.
 unfoldable pub noSupportMonth : ℕ → ℕ → Month
 noSupportMonth deductible outside =
-    month 30 1 0
+    month 1 1 0
     (producer 100000 deductible 0 0 0 0 [] (every 0) (every 0) (every outside) ∷ [])
     (row 0 0 1000 0 ∷ [])
     (consumer 0 0 0 0 10 0 ∷ [])
@@ -111,7 +111,7 @@ k1Figures =
     -- T is the support rows alone: a bilateral row beside one of 10.0 leaves 1 - 2 × 1.0 / 10 = 0.8
     ∷ figure
     (k1
-    (month 30 1 0
+    (month 1 1 0
     (producer 100000 0 0 0 0 0 [] (every 0) (every 0) (every 10) ∷ [])
     (row 0 0 900 0 ∷ row 0 255 100 0 ∷ [])
     (consumer 0 0 0 0 10 0 ∷ [])))
