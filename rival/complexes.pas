@@ -75,7 +75,6 @@ uses
 
 const
   RecordFrontWidth = 9;    { length, consumer and imported power }
-  PowerWidth = 4;
   HourWidth = 8;           { drawn and sent; 24 of them make 192 a day }
   ContractVolumeWidth = 4; { stands before the peak in a consumer }
   PeakWidth = 4;

@@ -260,7 +260,7 @@ begin
     NotRefused:
       begin
         AddMarksOfDone(Result, Sheet, Complex, Outcome);
-        AddVersionOfDaysMark(Result, Sheet.Header);
+        AddLaterVersionMark(Result, Sheet.Header);
       end;
   end;
 end;

@@ -18,8 +18,8 @@ procedure AddDayMarks(var Line: string; const Sheet: TSheet; const Settlement: T
 { The marks of a refused sheet: `N` and the number, and what request 5 has to do with it. }
 function RefusalMarksText(const Sheet: TSheet; Refusal: Integer): string;
 
-{ `version2` for a sheet of that version, where the other version has no mark. }
-procedure AddVersionOfDaysMark(var Line: string; const Header: THeader);
+{ `version2` or `version3` for a sheet of that version, where version 1 has no mark. }
+procedure AddLaterVersionMark(var Line: string; const Header: THeader);
 
 implementation
 
@@ -33,9 +33,9 @@ begin
   AddMark(Line, 'version' + NumberText(Header.Version));
 end;
 
-procedure AddVersionOfDaysMark(var Line: string; const Header: THeader);
+procedure AddLaterVersionMark(var Line: string; const Header: THeader);
 begin
-  if Header.Version = VersionOfDays then AddVersionMark(Line, Header);
+  if Header.Version > VersionOfMonths then AddVersionMark(Line, Header);
 end;
 
 { ------------------------------------------------------- accepted: the days }
@@ -165,7 +165,7 @@ var
   Number: Integer;
 begin
   AddVersionMark(Line, Sheet.Header);
-  if Sheet.Header.Version <> VersionOfDays then Exit;
+  if not RowsStateDays(Sheet.Header) then Exit;
   for Number := 0 to Sheet.Header.RowCount - 1 do
     if Settlement.Rows[Number].VolumeAfterCut > 0 then
     begin
@@ -182,7 +182,7 @@ end;
 
 procedure AddMarksOf3(var Line: string; Version: Integer);
 const
-  FirstPast = VersionOfDays + 1;
+  FirstPast = VersionOfColumns + 1;
 begin
   if Version = 0 then AddMark(Line, '3version0');
   if Version = FirstPast then AddMark(Line, '3version' + NumberText(FirstPast));
@@ -195,15 +195,16 @@ begin
   Result := LengthAskedFor(Header);
 end;
 
-{ A length that would be right with the rows of the other version. }
+{ A length that would be right with rows of the other width. }
 procedure AddMarksOf6(var Line: string; const Header: THeader);
 begin
   if Header.RowCount = 0 then Exit;
-  if (Header.Version = VersionOfDays)
-    and (Header.SheetLength = LengthUnder(VersionOfMonths, Header)) then
-    AddMark(Line, '6rows10');
-  if (Header.Version = VersionOfMonths)
-    and (Header.SheetLength = LengthUnder(VersionOfDays, Header)) then
+  if RowsStateDays(Header) then
+  begin
+    if Header.SheetLength = LengthUnder(VersionOfMonths, Header) then
+      AddMark(Line, '6rows10');
+  end
+  else if Header.SheetLength = LengthUnder(VersionOfDays, Header) then
     AddMark(Line, '6rows12');
 end;
 

@@ -153,7 +153,7 @@ begin
       Figures[Number]);
   AddCountMark(Result, Sheet.Header.ConsumerCount);
   AddRoomMarks(Result, Sheet.Header, BufferLength);
-  AddVersionOfDaysMark(Result, Sheet.Header);
+  AddLaterVersionMark(Result, Sheet.Header);
 end;
 
 function RefusalMarks2015(const Sheet: TSheet; Refusal: Integer;

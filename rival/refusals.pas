@@ -29,6 +29,9 @@ function RefusalByBody2015(const Sheet: TSheet; BufferLength: Int64): Integer;
 { The same without 7, for an entry that has no result buffer: numbers 8 to 12 and 18. }
 function RefusalByFigures(const Sheet: TSheet): Integer;
 
+{ Number 9, which marks try again over other figures. }
+function SomeCapacityTooHigh(const Sheet: TSheet): Boolean;
+
 { Number 18, of one row and of the whole sheet. }
 function DaysAreWrong(const Row: TRow; DaysInMonth: Integer): Boolean;
 function SomeDaysAreWrong(const Sheet: TSheet): Boolean;
@@ -65,7 +68,7 @@ function RefusalByHeader(const Header: THeader; BytesHandedOver: Int64): Integer
 begin
   if BytesHandedOver < HeaderWidth then Exit(1);
   if Header.SheetLength <> BytesHandedOver then Exit(2);
-  if not (Header.Version in [VersionOfMonths, VersionOfDays]) then Exit(3);
+  if not (Header.Version in [VersionOfMonths..VersionOfColumns]) then Exit(3);
   if MonthIsWrong(Header) then Exit(4);
   if CountsAreWrong(Header) then Exit(5);
   if Header.SheetLength <> LengthAskedFor(Header) then Exit(6);
@@ -99,16 +102,14 @@ end;
 function ProducerCapacityTooHigh(const Producer: TProducer; HourCount: Integer): Boolean;
 var
   Hour: Integer;
+  Series: TSeries;
 begin
   if Producer.AttestedCapacity > TopCapacity then Exit(True);
   if Producer.DeductibleCapacity > TopCapacity then Exit(True);
   if Producer.GreatestOwnNeeds > TopCapacity then Exit(True);
   for Hour := 0 to HourCount - 1 do
-  begin
-    if Producer.Hours[Hour].Working > TopCapacity then Exit(True);
-    if Producer.Hours[Hour].Possible > TopCapacity then Exit(True);
-    if Producer.Hours[Hour].OutsideUse > TopCapacity then Exit(True);
-  end;
+    for Series := Low(TSeries) to High(TSeries) do
+      if Producer.Hours[Hour][Series] > TopCapacity then Exit(True);
   Result := False;
 end;
 

@@ -1,13 +1,13 @@
-{ The rival: a second reading of document 01 and of requests 1, 3, 4, 5 and 6 of document
-  02, to compare a proved program with. See README.md for its commands. }
+{ The rival: a second reading of document 01 and of requests 1, 3, 4, 5, 6 and 7 of
+  document 02, to compare a proved program with. See README.md for its commands. }
 program rival;
 
 {$mode objfpc}{$H+}{$R+}{$Q+}
 
 uses
   SysUtils, sheets, refusals, settlements, results, transfers, complexes, texts2015,
-  listings, traces, marks, daymarks, hundredthmarks, transfermarks, complexmarks,
-  marks2015, bytefiles;
+  rearrangements, listings, traces, marks, daymarks, hundredthmarks, columnmarks,
+  transfermarks, complexmarks, marks2015, bytefiles;
 
 const
   MostBytesListed = 65536;    { section Listing: what is handed over of a longer input }
@@ -17,6 +17,10 @@ const
 
   KindBytes = 0;
   KindRefusal = 1;
+  KindLeftAlone = 2;
+
+  { In place of a refusal's number: the sheet is of version 1, which is not rearranged. }
+  LeftAlone = -1;
 
   StatusTrouble = 1;
   StatusWrongUse = 2;
@@ -27,6 +31,7 @@ var
   Sheet: TSheet;
   Settlement: TSettlement;
   Settlement2015: TSettlement2015;
+  BytesOfCase: TByteSequence; { the sheet's, for the marks of hours by column }
   BufferOfCase: Int64; { the result buffer's length, for the marks of the 2015 text }
   List: TTransferList;
   Transferred: TTransferOutcome;
@@ -60,6 +65,17 @@ begin
   Result := RefusalByBody2015(Sheet, BufferLength);
   if Result <> NotRefused then Exit;
   Settle2015(Sheet, Settlement2015);
+end;
+
+{ Rearranges a sheet that gets past number 6, whatever its figures. Gives the refusal's
+  number, LeftAlone, or NotRefused and the rearrangement's bytes. }
+function Rearrange(const Bytes: TByteSequence; out Answer: TByteSequence): Integer;
+begin
+  Answer := nil;
+  Result := ReadSheet(Bytes);
+  if Result <> NotRefused then Exit;
+  if not HasRearrangement(Sheet.Header) then Exit(LeftAlone);
+  Answer := Rearranged(Bytes, Sheet);
 end;
 
 { The sheet's own numbers where it is to be changed: there is no result buffer, so
@@ -197,6 +213,20 @@ begin
     PrintBytes(Changed);
 end;
 
+procedure RearrangeSheet(const Bytes: TByteSequence);
+var
+  Refusal: Integer;
+  Answer: TByteSequence;
+begin
+  Refusal := Rearrange(Bytes, Answer);
+  case Refusal of
+    NotRefused: PrintBytes(Answer);
+    LeftAlone: WriteLn('version ', Sheet.Header.Version);
+  else
+    WriteLn('refusal ', Refusal);
+  end;
+end;
+
 { --------------------------------------------------------------- many sheets }
 
 function FourBytes(Value: Int64): TByteSequence;
@@ -273,13 +303,19 @@ begin
   WriteBytes(Target, Bytes);
 end;
 
+function MarksOfRefused(Refusal: Integer): string;
+begin
+  Result := RefusalMarksText(Sheet, Refusal);
+  if Refusal = 9 then AddColumnMarksOf9(Result, Sheet);
+end;
+
 function SheetMarks(Refusal: Integer): string;
 begin
-  if Refusal <> NotRefused then
-    Exit(RefusalMarksText(Sheet, Refusal));
+  if Refusal <> NotRefused then Exit(MarksOfRefused(Refusal));
   Result := MarksText(Sheet, Settlement);
   AddDayMarks(Result, Sheet, Settlement);
   AddHundredthMarks(Result, Sheet, Settlement);
+  AddColumnMarks(Result, BytesOfCase, Sheet, Settlement);
 end;
 
 { Document 01's settlement is taken too, for what the two texts see differently. }
@@ -312,20 +348,19 @@ begin
 end;
 
 type
-  { Answers the next case: a refusal's number, or NotRefused and the bytes. False at
-    the file's end. }
+  { Answers the next case: a refusal's number, LeftAlone, or NotRefused and the bytes.
+    False at the file's end. }
   TAnswerNext = function(var Source: file; out Refusal: Integer;
     out Answer: TByteSequence): Boolean;
   TMarksOf = function(Refusal: Integer): string;
 
 function SettleNext(var Source: file; out Refusal: Integer; out Answer: TByteSequence): Boolean;
 var
-  Bytes: TByteSequence;
   BufferLength: Int64;
 begin
-  Result := NextCase(Source, Bytes, BufferLength);
+  Result := NextCase(Source, BytesOfCase, BufferLength);
   if not Result then Exit;
-  Refusal := AnswerTo(Bytes, BufferLength);
+  Refusal := AnswerTo(BytesOfCase, BufferLength);
   if Refusal = NotRefused then Answer := ResultBytes(Sheet, Settlement);
 end;
 
@@ -338,6 +373,17 @@ begin
   if not Result then Exit;
   Refusal := AnswerTo2015(Bytes, BufferOfCase);
   if Refusal = NotRefused then Answer := ResultBytes2015(Sheet, Settlement2015);
+end;
+
+{ A result buffer's length stands in the case, but is not looked at. }
+function RearrangeNext(var Source: file; out Refusal: Integer;
+  out Answer: TByteSequence): Boolean;
+var
+  Bytes: TByteSequence;
+  BufferLength: Int64;
+begin
+  Result := NextCase(Source, Bytes, BufferLength);
+  if Result then Refusal := Rearrange(Bytes, Answer);
 end;
 
 function ChangeNext(var Source: file; Change: TChange; out Refusal: Integer;
@@ -359,6 +405,16 @@ begin
   Result := ChangeNext(Source, @ChangeByAverage, Refusal, Answer);
 end;
 
+procedure WriteAnswerOf(var Target: file; Refusal: Integer; const Answer: TByteSequence);
+begin
+  case Refusal of
+    NotRefused: WriteAnswer(Target, KindBytes, Length(Answer), Answer);
+    LeftAlone: WriteAnswer(Target, KindLeftAlone, 0, nil);
+  else
+    WriteAnswer(Target, KindRefusal, Refusal, nil);
+  end;
+end;
+
 { Writes the answers or, if MarksOf is given, the marks. }
 procedure AnswerCases(const InName, OutName: string; AnswerNext: TAnswerNext;
   MarksOf: TMarksOf);
@@ -372,10 +428,8 @@ begin
   while AnswerNext(Source, Refusal, Answer) do
     if Assigned(MarksOf) then
       WriteLine(Target, MarksOf(Refusal))
-    else if Refusal <> NotRefused then
-      WriteAnswer(Target, KindRefusal, Refusal, nil)
     else
-      WriteAnswer(Target, KindBytes, Length(Answer), Answer);
+      WriteAnswerOf(Target, Refusal, Answer);
   CloseAfterWriting(Target);
   Close(Source);
 end;
@@ -389,6 +443,8 @@ begin
   WriteLn(StdErr, '       rival trace FILE               the figures in between');
   WriteLn(StdErr, '       rival batch IN OUT             the results of many sheets');
   WriteLn(StdErr, '       rival marks IN OUT             the corners many sheets reach');
+  WriteLn(StdErr, '       rival rearrange FILE           the rearrangement''s bytes in hex');
+  WriteLn(StdErr, '       rival rearranges IN OUT        the rearrangements of many sheets');
   WriteLn(StdErr, '       rival transfer SHEET LIST      the changed sheet''s bytes in hex');
   WriteLn(StdErr, '       rival transfers IN OUT         the changed sheets of many cases');
   WriteLn(StdErr, '       rival transfermarks IN OUT     the corners many lists reach');
@@ -440,6 +496,10 @@ begin
     AnswerCases(ParamStr(2), ParamStr(3), @SettleNext, nil)
   else if (Command = 'marks') and (ParamCount = 3) then
     AnswerCases(ParamStr(2), ParamStr(3), @SettleNext, @SheetMarks)
+  else if (Command = 'rearrange') and (ParamCount = 2) then
+    RearrangeSheet(FileBytes(ParamStr(2), NoLimit))
+  else if (Command = 'rearranges') and (ParamCount = 3) then
+    AnswerCases(ParamStr(2), ParamStr(3), @RearrangeNext, nil)
   else if (Command = 'transfer') and (ParamCount = 3) then
     ChangeSheet(@ChangeByTransfers, FileBytes(ParamStr(2), NoLimit),
       FileBytes(ParamStr(3), NoLimit))

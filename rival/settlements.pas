@@ -178,7 +178,7 @@ begin
   Result := nil;
   SetLength(Result, H);
   for Hour := 0 to H - 1 do
-    Result[Hour] := Producer.Hours[Hour].OutsideUse;
+    Result[Hour] := Producer.Hours[Hour][seriesOutsideUse];
 end;
 
 { Section Control hours: the control average of outside use, to a hundredth. }
@@ -296,9 +296,10 @@ begin
   Figures.SumWorked := 0;
   for Hour := 0 to H - 1 do
   begin
-    M := Smaller(Figures.WholeSum, Producer.Hours[Hour].Possible);
+    M := Smaller(Figures.WholeSum, Producer.Hours[Hour][seriesPossible]);
     Figures.SumOfM := Figures.SumOfM + M;
-    Figures.SumWorked := Figures.SumWorked + Smaller(M, Producer.Hours[Hour].Working);
+    Figures.SumWorked := Figures.SumWorked
+      + Smaller(M, Producer.Hours[Hour][seriesWorking]);
   end;
   if Figures.SumOfM = 0 then
     Figures.K[4] := Million

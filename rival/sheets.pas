@@ -1,6 +1,7 @@
 { The month's sheet as records, and the reading of its bytes.
   Field widths and their order follow document 01, "Units and the sheet"; the days of a
-  row in sheet version 2 are request 5 of document 02. }
+  row, from sheet version 2 on, are request 5 of document 02, and the hours by column of
+  version 3 are request 7. }
 unit sheets;
 
 {$mode objfpc}{$H+}{$R+}{$Q+}
@@ -10,8 +11,13 @@ interface
 const
   HeaderWidth = 14;
 
-  VersionOfMonths = 1; { every row covers the month }
-  VersionOfDays = 2;   { each row states its first and last day }
+  VersionOfMonths = 1;  { every row covers the month }
+  VersionOfDays = 2;    { each row states its first and last day }
+  VersionOfColumns = 3; { the same, and a producer's hours stand by column }
+
+  VersionPlace = 4; { of its byte, after the length }
+
+  PowerWidth = 4; { of one power in one hour }
 
   MostProducers = 6;
   MostRows = 32;
@@ -34,12 +40,19 @@ type
     ConsumerCount: Byte;
   end;
 
-  { Powers in tenths of a megawatt. }
-  THour = record
-    Working: LongWord;
-    Possible: LongWord;
-    OutsideUse: LongWord;
+  { The three series of powers, in the order in which the papers name them: in every
+    version the order of the sheet, within an hour or as columns. }
+  TSeries = (seriesWorking, seriesPossible, seriesOutsideUse);
+
+  THour = array[TSeries] of LongWord; { tenths of a megawatt }
+
+  { Where a series stands among the bytes of a producer's hours: its power of hour 0, and
+    how far it is from one hour's power to the next. }
+  TSeriesPlace = record
+    Start, Step: Int64;
   end;
+
+  TLayout = array[TSeries] of TSeriesPlace;
 
   TProducer = record
     AttestedCapacity: LongWord;   { tenths of a megawatt, as the next two }
@@ -80,8 +93,21 @@ type
 { Hours in the month, H in the paper. }
 function HoursInMonth(const Header: THeader): Int64;
 
+{ From version 2 on a row states its days. }
+function RowsStateDays(const Header: THeader): Boolean;
+
 { The length that the header's version, counts and days ask for. }
 function LengthAskedFor(const Header: THeader): Int64;
+
+{ Where a producer's hours begin. The producers stand first after the header. }
+function HoursPlace(const Header: THeader; ProducerNumber: Integer): Int64;
+
+{ How the series of a producer's hours stand in a version: hour by hour up to version 2,
+  by column in version 3. }
+function LayoutOfHours(Version: Byte; HourCount: Int64): TLayout;
+
+{ Where the power of one hour stands in a sheet, for a series of hours that begin there. }
+function PowerPlace(HoursBegin: Int64; const Series: TSeriesPlace; Hour: Integer): Int64;
 
 { Where a consumer's record begins. The consumers stand last in the sheet. }
 function ConsumerPlace(const Header: THeader; Number: Integer): Int64;
@@ -103,13 +129,16 @@ procedure ReadHeader(const Bytes: TByteSequence; out Header: THeader);
   must already stand in the sheet. }
 procedure ReadBody(const Bytes: TByteSequence; var Sheet: TSheet);
 
+{ The hours of all producers alone, by whichever layout. Every byte of it must be there. }
+procedure ReadAllHours(const Bytes: TByteSequence; const Layout: TLayout; var Sheet: TSheet);
+
 implementation
 
 const
   ProducerWidth = 42; { without the hours }
-  HourWidth = 12;     { three powers of four bytes; 24 of them make 288 a day }
+  HourWidth = 3 * PowerWidth; { 24 of them make 288 a day }
   RowWidth = 10;
-  RowWidthOfDays = 12; { in version 2: two days of one byte after the price }
+  RowWidthOfDays = 12; { two days of one byte after the price }
   ConsumerWidth = 15;
 
   SingleBuyer = 255; { the consumer number of a support row }
@@ -119,17 +148,68 @@ begin
   Result := HoursInDay * Int64(Header.Days);
 end;
 
+function RowsStateDays(const Header: THeader): Boolean;
+begin
+  Result := Header.Version in [VersionOfDays, VersionOfColumns];
+end;
+
 function RowWidthIn(const Header: THeader): Int64;
 begin
-  if Header.Version = VersionOfDays then Result := RowWidthOfDays else Result := RowWidth;
+  if RowsStateDays(Header) then Result := RowWidthOfDays else Result := RowWidth;
+end;
+
+{ With its hours. }
+function ProducerWidthIn(const Header: THeader): Int64;
+begin
+  Result := ProducerWidth + HourWidth * HoursInMonth(Header);
 end;
 
 function LengthAskedFor(const Header: THeader): Int64;
 begin
   Result := HeaderWidth
-    + Int64(Header.ProducerCount) * (ProducerWidth + HourWidth * HoursInMonth(Header))
+    + Header.ProducerCount * ProducerWidthIn(Header)
     + RowWidthIn(Header) * Header.RowCount
     + ConsumerWidth * Int64(Header.ConsumerCount);
+end;
+
+{ With the count of producers in place of a number: where the last one ends. }
+function ProducerPlace(const Header: THeader; Number: Integer): Int64;
+begin
+  Result := HeaderWidth + Number * ProducerWidthIn(Header);
+end;
+
+function HoursPlace(const Header: THeader; ProducerNumber: Integer): Int64;
+begin
+  Result := ProducerPlace(Header, ProducerNumber) + ProducerWidth;
+end;
+
+{ The rows follow the last producer. }
+function RowsPlace(const Header: THeader): Int64;
+begin
+  Result := ProducerPlace(Header, Header.ProducerCount);
+end;
+
+{ The one place where the versions differ in their hours. }
+function LayoutOfHours(Version: Byte; HourCount: Int64): TLayout;
+var
+  Series: TSeries;
+begin
+  for Series := Low(TSeries) to High(TSeries) do
+    if Version = VersionOfColumns then
+    begin
+      Result[Series].Start := Ord(Series) * PowerWidth * HourCount;
+      Result[Series].Step := PowerWidth;
+    end
+    else
+    begin
+      Result[Series].Start := Ord(Series) * PowerWidth;
+      Result[Series].Step := HourWidth;
+    end;
+end;
+
+function PowerPlace(HoursBegin: Int64; const Series: TSeriesPlace; Hour: Integer): Int64;
+begin
+  Result := HoursBegin + Series.Start + Series.Step * Hour;
 end;
 
 function ConsumerPlace(const Header: THeader; Number: Integer): Int64;
@@ -185,10 +265,8 @@ begin
   Header.ConsumerCount := NextOne(Bytes, Place);
 end;
 
-procedure ReadProducer(const Bytes: TByteSequence; var Place: Integer;
-  HourCount: Integer; var Producer: TProducer);
-var
-  Hour: Integer;
+{ What stands before the hours. }
+procedure ReadProducer(const Bytes: TByteSequence; Place: Integer; var Producer: TProducer);
 begin
   Producer.AttestedCapacity := NextFour(Bytes, Place);
   Producer.DeductibleCapacity := NextFour(Bytes, Place);
@@ -202,12 +280,29 @@ begin
   Producer.K8 := NextFour(Bytes, Place);
   Producer.K9 := NextFour(Bytes, Place);
   Producer.K10 := NextFour(Bytes, Place);
-  for Hour := 0 to HourCount - 1 do
-  begin
-    Producer.Hours[Hour].Working := NextFour(Bytes, Place);
-    Producer.Hours[Hour].Possible := NextFour(Bytes, Place);
-    Producer.Hours[Hour].OutsideUse := NextFour(Bytes, Place);
-  end;
+end;
+
+procedure ReadHours(const Bytes: TByteSequence; HoursBegin: Int64; const Layout: TLayout;
+  HourCount: Integer; var Producer: TProducer);
+var
+  Series: TSeries;
+  Hour, Place: Integer;
+begin
+  for Series := Low(TSeries) to High(TSeries) do
+    for Hour := 0 to HourCount - 1 do
+    begin
+      Place := PowerPlace(HoursBegin, Layout[Series], Hour);
+      Producer.Hours[Hour][Series] := NextFour(Bytes, Place);
+    end;
+end;
+
+procedure ReadAllHours(const Bytes: TByteSequence; const Layout: TLayout; var Sheet: TSheet);
+var
+  Number: Integer;
+begin
+  for Number := 0 to Sheet.Header.ProducerCount - 1 do
+    ReadHours(Bytes, HoursPlace(Sheet.Header, Number), Layout, HoursInMonth(Sheet.Header),
+      Sheet.Producers[Number]);
 end;
 
 procedure ReadRow(const Bytes: TByteSequence; var Place: Integer; const Header: THeader;
@@ -217,7 +312,7 @@ begin
   Row.Consumer := NextOne(Bytes, Place);
   Row.Volume := NextFour(Bytes, Place);
   Row.Price := NextFour(Bytes, Place);
-  if Header.Version = VersionOfDays then
+  if RowsStateDays(Header) then
   begin
     Row.FirstDay := NextOne(Bytes, Place);
     Row.LastDay := NextOne(Bytes, Place);
@@ -244,9 +339,10 @@ procedure ReadBody(const Bytes: TByteSequence; var Sheet: TSheet);
 var
   Place, Number: Integer;
 begin
-  Place := HeaderWidth;
   for Number := 0 to Sheet.Header.ProducerCount - 1 do
-    ReadProducer(Bytes, Place, HoursInMonth(Sheet.Header), Sheet.Producers[Number]);
+    ReadProducer(Bytes, ProducerPlace(Sheet.Header, Number), Sheet.Producers[Number]);
+  ReadAllHours(Bytes, LayoutOfHours(Sheet.Header.Version, HoursInMonth(Sheet.Header)), Sheet);
+  Place := RowsPlace(Sheet.Header);
   for Number := 0 to Sheet.Header.RowCount - 1 do
     ReadRow(Bytes, Place, Sheet.Header, Sheet.Rows[Number]);
   for Number := 0 to Sheet.Header.ConsumerCount - 1 do

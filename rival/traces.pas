@@ -100,12 +100,36 @@ begin
   end;
 end;
 
+{ How a producer's hours stand in the sheet: each series with the place of its first
+  power among the bytes of the hours, and the bytes from one power to the next. }
+procedure WriteLayout(var Paper: Text; const Header: THeader);
+const
+  SeriesNames: array[TSeries] of string = ('working', 'possible', 'outside use');
+var
+  Layout: TLayout;
+  Series: TSeries;
+begin
+  if Header.Version = VersionOfColumns then
+    Write(Paper, 'Hours by column:')
+  else
+    Write(Paper, 'Hours hour by hour:');
+  Layout := LayoutOfHours(Header.Version, HoursInMonth(Header));
+  for Series := Low(TSeries) to High(TSeries) do
+  begin
+    if Series > Low(TSeries) then Write(Paper, ',');
+    Write(Paper, ' ', SeriesNames[Series], ' from byte ', Layout[Series].Start,
+      ' every ', Layout[Series].Step);
+  end;
+  WriteLn(Paper);
+end;
+
 procedure WriteTrace(var Paper: Text; const Sheet: TSheet; const Settlement: TSettlement);
 var
   Number: Integer;
 begin
-  WriteLn(Paper, 'Month: version ', Sheet.Header.Version, ', days ', Sheet.Header.Days, ', first weekday ',
-    Sheet.Header.FirstWeekday, ', H ', HoursInMonth(Sheet.Header));
+  WriteLn(Paper, 'Month: version ', Sheet.Header.Version, ', days ', Sheet.Header.Days,
+    ', first weekday ', Sheet.Header.FirstWeekday, ', H ', HoursInMonth(Sheet.Header));
+  WriteLayout(Paper, Sheet.Header);
   for Number := 0 to Sheet.Header.ProducerCount - 1 do
     WriteProducer(Paper, Number, Settlement.Producers[Number]);
   for Number := 0 to Sheet.Header.RowCount - 1 do

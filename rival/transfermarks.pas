@@ -141,7 +141,7 @@ begin
     NotRefused:
       begin
         AddMarksOfDone(Result, List, VolumesIn(Sheet));
-        AddVersionOfDaysMark(Result, Sheet.Header);
+        AddLaterVersionMark(Result, Sheet.Header);
       end;
   end;
 end;

@@ -3,7 +3,7 @@ use mathlib.Core.Path.{_≡_, refl, sym, ap, _∙_}
 use mathlib.Core.Bool.{Bool, true, false, _&&_, _||_, or-true, or-false, or-assoc, true≢false}
 use mathlib.Core.Logic.{⊎-elim}
 use Prim.Native.Nat.{ℕ, zero, suc, zero-le, _+_, _*_, _≤_, _<_}
-use native.Mathlib.Nat.{le-refl, le-antisymm, le-of-eq, suc-mul, eq-or-lt-of-le, le-of-suc-le-suc}
+use native.Mathlib.Nat.{mul-comm, le-refl, le-antisymm, le-of-eq, suc-mul, eq-or-lt-of-le, le-of-suc-le-suc}
 use native.Mathlib.Numerals.{add-one}
 use native.Mathlib.Omega.{arith}
 use Rattle.rules.specs.Range.{sum, any, when}
@@ -161,3 +161,13 @@ any-groups f k zero = let none : k * 0 ≡ 0 = omega arith in rw none
 any-groups f k (suc n) =
     let next : k * suc n ≡ k * n + k = omega arith in
     rw (next, any-append f (k * n) k, any-groups f k n)
+
+-- A test over every pair of places, whichever of the two is told first.
+any-swap : (g : ℕ → ℕ → Bool) (k n : ℕ) → any (λ i. any (λ j. g i j) k) n ≡ any (λ j. any (λ i. g i j) n) k
+unfolding any
+any-swap g zero n = any-none _ n (λ i l. refl)
+any-swap g (suc k) n = any-or (λ i. any (λ j. g i j) k) (λ i. g i k) n ∙ ap (λ (b : Bool). b || any (λ i. g i k) n) (any-swap g k n)
+
+-- A test of k places, n apart, in one is one over k times as many places.
+pub any-columns : (f : ℕ → Bool) (k n : ℕ) → any (λ i. any (λ j. f (n * j + i)) k) n ≡ any f (k * n)
+any-columns f k n = any-swap (λ i j. f (n * j + i)) k n ∙ any-groups f n k ∙ ap (any f) (mul-comm n k)

@@ -7,9 +7,13 @@ use native.Mathlib.Nat.{add-zero, add-assoc, mul-le-mul, mul-le-mul-left, mul-le
 use native.Mathlib.Omega.{arith}
 use borrow.Author.Tests.{le-ltb, lt-ltb}
 use lib.ListN.{length, getD}
+use Rattle.rules.specs.declared.Header.{Header}
 use Rattle.rules.specs.declared.Layout.{Layout}
+use Rattle.rules.specs.declared.Series.{Series}
+use Rattle.rules.specs.declared.HourSeries.{HourSeries}
+use Rattle.rules.specs.Month.{hours}
 use Rattle.rules.specs.Fields.{bigEndian, bytesFrom}
-use Rattle.rules.specs.Sheet.{headerOf, statedWidth, hoursWidth, statesDays, rowWidth, consumerWidth, producerAt, hoursAt, rowAt, consumerAt, sheetLength, statedOf, dayAt, rowOf, consumerOf}
+use Rattle.rules.specs.Sheet.{headerOf, statedWidth, hoursWidth, statesDays, byColumn, triples, columns, hourSeries, rowWidth, consumerWidth, producerAt, hoursAt, rowAt, consumerAt, sheetLength, statedOf, dayAt, rowOf, consumerOf}
 use Rattle.laws.proofs.Arrays.{length-listed, getD-listed}
 use Rattle.laws.proofs.Fields.{same-bytes, Holds}
 
@@ -34,6 +38,34 @@ row-width-from l = go (statesDays l)
     go : (b : Bool) → 10 ≤ cond b 12 10
     go true = omega arith
     go false = omega arith
+
+-- Where a producer's powers stand: hour by hour, or by column.
+pub by-hour : (l : Layout) → byColumn l ≡ false → hourSeries l ≡ triples
+unfolding hourSeries
+by-hour l e = rw e
+
+pub by-column : (l : Layout) → byColumn l ≡ true → hourSeries l ≡ columns (l .header)
+unfolding hourSeries
+by-column l e = rw e
+
+-- In every version the powers of a series, in the hours of the month, end within the stretch.
+abbrev pub Spans : Header → Series → Type 0
+Spans h x = x .start + x .step * hours h + 4 ≤ hoursWidth h + x .step
+
+abbrev pub AllSpan : Header → HourSeries → Type 0
+AllSpan h x = Spans h (x .working) × Spans h (x .possible) × Spans h (x .outside)
+
+pub series-span : (l : Layout) → AllSpan (l .header) (hourSeries l)
+unfolding hourSeries
+series-span l = go (byColumn l)
+  where
+    go : (b : Bool) → AllSpan (l .header) (cond b (columns (l .header)) triples)
+    go true = (omega arith, omega arith, omega arith)
+    go false = (omega arith, omega arith, omega arith)
+
+-- Each of them then ends within.
+pub span-ends : (h : Header) (x : Series) → Spans h x → (i : ℕ) → i < hours h → x .start + x .step * i + 4 ≤ hoursWidth h
+span-ends h x spans i b = omega (arith, spans, mul-le-mul-left (x .step) b)
 
 -- Number 6's length, in document 01's words.
 pub sheet-length : (l : Layout)

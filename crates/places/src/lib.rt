@@ -1,7 +1,7 @@
 // Where the records of a sheet stand, and how long the sheet and its result are. No other crate asks for the version.
 ghost use mathlib.Core.Path.{_≡_};
 ghost use Prim.Native.Nat.{_≤_};
-ghost use Rattle.rules.specs.Sheet.{hoursWidth, producerAt, hoursAt, hourSeries, statesDays, rowWidth, rowAt, consumerAt, contractAt, peakAt, sheetLength};
+ghost use Rattle.rules.specs.Sheet.{hoursWidth, producerAt, hoursAt, byColumn, triples, columns, hourSeries, statesDays, rowWidth, rowAt, consumerAt, contractAt, peakAt, sheetLength};
 ghost use Rattle.rules.specs.Result.{resultLength};
 use rules::Header;
 use rules::HourSeries;
@@ -29,15 +29,41 @@ pub fn hours_width(h: Header) -> usize
     288 * (h.days as usize)
 }
 
-// Where working, possible and outside-use powers stand in a producer's hours.
-pub fn hour_series(layout: Layout) -> HourSeries
-    ensures { λ r. ⌜ r ≡ hourSeries layout ⌝ }
+// Whether a producer's hours stand by column.
+pub fn by_column(layout: Layout) -> bool
+    ensures { λ r. ⌜ r ≡ byColumn layout ⌝ }
+{
+    2 < layout.version
+}
+
+// Where working, possible and outside-use powers stand in a producer's hours: hour by hour,
+fn triples() -> HourSeries
+    ensures { λ r. ⌜ r ≡ triples ⌝ }
 {
     HourSeries {
         working: Series { start: 0, step: 12 },
         possible: Series { start: 4, step: 12 },
         outside: Series { start: 8, step: 12 },
     }
+}
+
+// by column,
+fn columns(h: Header) -> HourSeries
+    ensures { λ r. ⌜ r ≡ columns h ⌝ }
+{
+    let days = h.days as u16;
+    HourSeries {
+        working: Series { start: 0, step: 4 },
+        possible: Series { start: 96 * days, step: 4 },
+        outside: Series { start: 192 * days, step: 4 },
+    }
+}
+
+// and under a layout.
+pub fn hour_series(layout: Layout) -> HourSeries
+    ensures { λ r. ⌜ r ≡ hourSeries layout ⌝ }
+{
+    if by_column(layout) { columns(layout.header) } else { triples() }
 }
 
 // Whether rows state the days that they cover.

@@ -20,6 +20,7 @@ use Rattle.rules.specs.ControlTable.{tableDay}
 use Rattle.rules.specs.Coefficients.{ratio, millionthsOf, overuse, penalty, lessPenalty, asked, met, exactK1, exactK4, k1}
 use Rattle.laws.proofs.Range.{sum-same}
 use Rattle.laws.proofs.Fields.{read-part}
+use Rattle.laws.proofs.Sheet.{Spans, series-span, span-ends}
 use Rattle.sheet.specs.Whole.{stretchIn}
 use Rattle.sheet.proofs.Whole.{stretch-whole}
 use Rattle.hours.specs.declared.k4.K4.{K4}
@@ -39,33 +40,41 @@ module _ (l : Layout) (s : List ℕ) (p : ℕ) (fits : hoursAt l p + hoursWidth 
   wide = rw there (simp (length-take, length-drop) (omega arith))
 
   -- A series of the producer's powers stands in the stretch, and is read there.
-  module _ (x : Series) (by : x .step ≡ 12) (from : x .start ≤ 8) where
+  module _ (x : Series) (spans : Spans (l .header) x) where
     standing : stands (length part) x (24 * l .header .days) ≡ true
     unfolding stands
-    standing = let within-part : x .start + x .step * (24 * l .header .days) + 4 ≤ length part + x .step = rw (by, wide) (omega arith) in le-leb _ _ within-part
+    standing = le-leb (x .start + x .step * (24 * l .header .days) + 4) (length part + x .step) (rw wide spans)
 
     read : (i : ℕ) → i < 24 * l .header .days → powerIn part x i ≡ power s (hoursAt l p) x i
     unfolding power
-    read i b =
-        let inside : x .start + x .step * i + 4 ≤ hoursWidth (l .header) = rw by (omega arith) in
-        rw there (read-part 4 (hoursWidth (l .header)) (hoursAt l p) (x .start + x .step * i) s inside)
+    read i b = rw there (read-part 4 (hoursWidth (l .header)) (hoursAt l p) (x .start + x .step * i) s (span-ends (l .header) x spans i b))
+
+  -- The three of them.
+  working-spans : Spans (l .header) (hourSeries l .working)
+  working-spans = series-span l .0
+
+  possible-spans : Spans (l .header) (hourSeries l .possible)
+  possible-spans = series-span l .1
+
+  outside-spans : Spans (l .header) (hourSeries l .outside)
+  outside-spans = series-span l .2
 
   -- k4.
   module _ (S : ℕ) where
     asked-read : (i : ℕ) → i < hours (l .header) → min S (powerIn part (hourSeries l .possible) i) ≡ asked (producerUnder l s p) S i
     unfolding asked
-    asked-read i b = ap (min S) (read (hourSeries l .possible) refl (omega arith) i b)
+    asked-read i b = ap (min S) (read (hourSeries l .possible) possible-spans i b)
 
     met-read : (i : ℕ) → i < hours (l .header)
         → min (min S (powerIn part (hourSeries l .possible) i)) (powerIn part (hourSeries l .working) i) ≡ met (producerUnder l s p) S i
     unfolding met
-    met-read i b = ap₂ (λ (m w : ℕ). min m w) (asked-read i b) (read (hourSeries l .working) refl (omega arith) i b)
+    met-read i b = ap₂ (λ (m w : ℕ). min m w) (asked-read i b) (read (hourSeries l .working) working-spans i b)
 
     pub k4-known : {k : K4} {r : Ratio} → k ≡ k4In part (hourSeries l .working) (hourSeries l .possible) (l .header .days) S → r ≡ ratio (k .met .0) (k .asked .0)
         → r ≡ exactK4 (l .header) (producerUnder l s p) S
     unfolding k4In exactK4
     k4-known sums is =
-        rw (is, sums, standing (hourSeries l .working) refl (omega arith), standing (hourSeries l .possible) refl (omega arith), sum-same _ _ {n = hours (l .header)} refl met-read, sum-same _ _ {n = hours (l .header)} refl asked-read)
+        rw (is, sums, standing (hourSeries l .working) working-spans, standing (hourSeries l .possible) possible-spans, sum-same _ _ {n = hours (l .header)} refl met-read, sum-same _ _ {n = hours (l .header)} refl asked-read)
 
   -- k1.
   module _ (few : l .header .days ≤ 31) (from : 1 ≤ l .header .weekday) (to : l .header .weekday ≤ 7) {on : List Bool} (days : on ≡ listed (tableDay (l .header)) 256) where
@@ -74,7 +83,7 @@ module _ (l : Layout) (s : List ℕ) (p : ℕ) (fits : hoursAt l p + hoursWidth 
     average is =
         is
         ∙ average-known (l .header) few from to days part (Hourly.Power (hourSeries l .outside)) (producerUnder l s p .outsideUse)
-        (unfold hourlyStands in standing (hourSeries l .outside) refl (omega arith)) (read (hourSeries l .outside) refl (omega arith)) hundredth
+        (unfold hourlyStands in standing (hourSeries l .outside) outside-spans) (read (hourSeries l .outside) outside-spans) hundredth
 
     pub k1-known : {a r : ℕ} {x : Stated} (T : ℕ) → a ≡ averageIn hundredth part (Hourly.Power (hourSeries l .outside)) (l .header .days) on → x ≡ statedOf s (producerAt l p)
         → r ≡ millionthsOf (lessPenalty T (penaltyFrom a (x .deductible)))

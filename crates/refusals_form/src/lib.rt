@@ -26,7 +26,7 @@ fn bad_version(s: &[u8]) -> bool
     ensures { λ r. ⌜ r ≡ badVersion (now (s .entry)) ⌝ }
 {
     let version = byte(s, 4);
-    (version < 1) | (2 < version)
+    (version < 1) | (3 < version)
 }
 
 // 4: the month.

@@ -1,6 +1,6 @@
 -- Numbers 8 and 9 of a producer: its stated figures, and the powers in the stretch of its hours. Assumes nothing.
-use mathlib.Core.Path.{_≡_, sym, ap, _∙_}
-use mathlib.Core.Bool.{Bool, _||_, or-false, or-assoc}
+use mathlib.Core.Path.{_≡_, refl, sym, _∙_}
+use mathlib.Core.Bool.{Bool, true, false, _||_, or-false, or-assoc}
 use mathlib.Core.List.{List}
 use Prim.Native.Nat.{ℕ, _+_, _*_, _≤_, _<_}
 use native.Mathlib.Omega.{arith}
@@ -10,38 +10,52 @@ use Rattle.rules.specs.declared.Stated.{Stated}
 use Rattle.rules.specs.Range.{any}
 use Rattle.rules.specs.Month.{hours}
 use Rattle.rules.specs.Fields.{bigEndian}
-use Rattle.rules.specs.Sheet.{hoursWidth, producerAt, hoursAt, sheetLength, statedOf, power, producerUnder}
+use Rattle.rules.specs.Sheet.{hoursWidth, producerAt, hoursAt, sheetLength, statedOf, byColumn, triples, columns, hourSeries, power, producerUnder}
 use Rattle.rules.specs.Refusals.{oneOf, tooHigh, badShare, highHour, highProducer}
 use Rattle.rules.specs.Outcome.{within}
-use Rattle.laws.proofs.Range.{any-same, any-groups}
-use Rattle.laws.proofs.Sheet.{hours-inside}
+use Rattle.laws.proofs.Range.{any-same, any-groups, any-columns}
+use Rattle.laws.proofs.Sheet.{by-hour, by-column, hours-inside}
 use Rattle.sheet.specs.Whole.{statedIn, stretchIn}
 use Rattle.sheet.proofs.Whole.{stated-whole, stretch-whole}
 use Rattle.refusals_record.specs.Stated.{withoutPower, highStated}
-use Rattle.refusals_powers.specs.Powers.{highPowers, highFrom}
+use Rattle.refusals_powers.specs.Powers.{highPowers}
 use Rattle.refusals_powers.proofs.Powers.{part-high}
 
 module _ (layout : Layout) (s : List ℕ) (p : ℕ) where
-  -- An hour's three powers stand one after the other.
-  hour-high : (i : ℕ) → any (λ j. tooHigh (bigEndian 4 s (hoursAt layout p + 4 * (3 * i + j)))) 3 ≡ highHour (producerUnder layout s p) i
+  abbrev highAt : ℕ → Bool
+  highAt i = tooHigh (bigEndian 4 s (hoursAt layout p + 4 * i))
+
+  -- An hour's three powers, where one power in the stretch follows the other: three together, or a column apart.
+  together : (i : ℕ) → hourSeries layout ≡ triples → any (λ j. highAt (3 * i + j)) 3 ≡ highHour (producerUnder layout s p) i
   unfolding any highHour oneOf power
-  hour-high i =
+  together i e =
       let w : 4 * (3 * i + 0) ≡ 0 + 12 * i = omega arith in
       let q : 4 * (3 * i + 1) ≡ 4 + 12 * i = omega arith in
       let o : 4 * (3 * i + 2) ≡ 8 + 12 * i = omega arith in
-      rw (w, q, o, or-false) (simp or-assoc)
+      rw (e, w, q, o, or-false) (simp or-assoc)
 
-  -- The powers of the stretch are those of the hours.
+  apart : (i : ℕ) → hourSeries layout ≡ columns (layout .header) → any (λ j. highAt (hours (layout .header) * j + i)) 3 ≡ highHour (producerUnder layout s p) i
+  unfolding any highHour oneOf power
+  apart i e =
+      let w : 4 * (hours (layout .header) * 0 + i) ≡ 0 + 4 * i = omega arith in
+      let q : 4 * (hours (layout .header) * 1 + i) ≡ 96 * layout .header .days + 4 * i = omega arith in
+      let o : 4 * (hours (layout .header) * 2 + i) ≡ 192 * layout .header .days + 4 * i = omega arith in
+      rw (e, w, q, o, or-false) (simp or-assoc)
+
+  -- The powers of the stretch are those of the hours, in every version.
+  all-high : any highAt (3 * hours (layout .header)) ≡ any (highHour (producerUnder layout s p)) (hours (layout .header))
+  all-high = go (byColumn layout) refl
+    where
+      go : (b : Bool) → byColumn layout ≡ b → any highAt (3 * hours (layout .header)) ≡ any (highHour (producerUnder layout s p)) (hours (layout .header))
+      go false e = sym (any-groups highAt 3 (hours (layout .header))) ∙ any-same _ _ (hours (layout .header)) (λ i l. together i (by-hour layout e))
+      go true e = sym (any-columns highAt 3 (hours (layout .header))) ∙ any-same _ _ (hours (layout .header)) (λ i l. apart i (by-column layout e))
+
   stretch-high : hoursAt layout p + hoursWidth (layout .header) ≤ length s
       → highPowers (within (stretchIn layout (length s) p) s) ≡ any (highHour (producerUnder layout s p)) (hours (layout .header))
   unfolding within
   stretch-high fits =
-      let all : 72 * layout .header .days ≡ 3 * (24 * layout .header .days) = omega arith in
       rw (stretch-whole layout s p fits)
-      (part-high s (hoursAt layout p) (hoursWidth (layout .header)) (72 * layout .header .days) (omega arith) fits
-      ∙ ap (highFrom s (hoursAt layout p)) all
-      ∙ sym (any-groups (λ i. tooHigh (bigEndian 4 s (hoursAt layout p + 4 * i))) 3 (24 * layout .header .days))
-      ∙ any-same _ _ (24 * layout .header .days) (λ i l. hour-high i))
+      (part-high s (hoursAt layout p) (hoursWidth (layout .header)) (3 * hours (layout .header)) (omega arith) fits ∙ all-high)
 
   -- In a whole sheet, of a producer below P.
   module _ (whole : sheetLength layout ≤ length s) (below : p < layout .header .producers) where

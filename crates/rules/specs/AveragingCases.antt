@@ -201,10 +201,10 @@ day-kept = refl
 
 unfoldable pub orderCases : List Figure
 orderCases =
-    -- no record, and the sheet's numbers, which come first: z 0.9; version 3
+    -- no record, and the sheet's numbers, which come first: z 0.9; version 4
     figure (averageRefusal plain []) 16
     ∷ figure (averageRefusal (threeConsumers 1 28 (0 ∷ 0 ∷ 0 ∷ 9 ∷ []) 9) []) 12
-    ∷ figure (averageRefusal (threeConsumers 3 28 (0 ∷ 0 ∷ 0 ∷ 9 ∷ []) 10) []) 3
+    ∷ figure (averageRefusal (threeConsumers 4 28 (0 ∷ 0 ∷ 0 ∷ 9 ∷ []) 10) []) 3
     -- 201 bytes whose front would be that of a sheet of one day with 255 consumers: the days are the sheet's
     ∷ figure (averageRefusal plain ((0 ∷ 0 ∷ 0 ∷ 201 ∷ 1 ∷ 1 ∷ 1 ∷ 0 ∷ 0 ∷ 0 ∷ 0 ∷ 0 ∷ 0 ∷ 255 ∷ []) ++ replicate 187 0)) 16
     ∷ []

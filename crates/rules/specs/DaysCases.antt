@@ -153,11 +153,11 @@ versionCases =
     -- one row: 24 bytes in version 1 and 26 in version 2, each refused for its producer, 0 of 0, and not for its length
     ∷ figure (refusal (front 24 1 28 1 0 ++ rowBytes 0 []) 37) 10
     ∷ figure (refusal (fromDay 1) 37) 10
-    -- exchanged, for its length; versions 0 and 3, whatever the length
+    -- exchanged, for its length; versions 0, 4 and 255, whatever the length
     ∷ figure (refusal (front 26 1 28 1 0 ++ rowBytes 0 (1 ∷ 28 ∷ [])) 37) 6
     ∷ figure (refusal (front 24 2 28 1 0 ++ rowBytes 0 []) 37) 6
     ∷ figure (refusal (front 24 0 28 1 0 ++ rowBytes 0 []) 37) 3
-    ∷ figure (refusal (front 26 3 28 1 0 ++ rowBytes 0 (1 ∷ 28 ∷ [])) 37) 3
+    ∷ figure (refusal (front 26 4 28 1 0 ++ rowBytes 0 (1 ∷ 28 ∷ [])) 37) 3
     ∷ figure (refusal (front 26 255 28 1 0 ++ rowBytes 0 (1 ∷ 28 ∷ [])) 37) 3
     -- 18 is among the numbers that entries without a result buffer try
     ∷ figure (when (applies 18 (sheetTests (fromDay 0))) 1) 1

@@ -36,3 +36,4 @@ pub mod AveragingCases
 pub mod Text2015Cases
 pub mod DaysCases
 pub mod HundredthsCases
+pub mod ColumnCases

@@ -69,7 +69,7 @@ pub record FormLimits (s : List ℕ) : Type 0 where
   pub whole-header : headerWidth ≤ length s
   pub length-told : lengthField s ≡ length s
   pub version-from : 1 ≤ version s
-  pub version-to : version s ≤ 2
+  pub version-to : version s ≤ 3
   pub header : HeaderLimits (headerOf s)
   pub length-right : lengthField s ≡ sheetLength (layoutOf s)
 

@@ -10,7 +10,7 @@ use Rattle.rules.specs.Rows.{running, daysCovered, forDays, through, act
 use Rattle.rules.specs.Consumers.{credited, credit, countedPeak, overContract, percentOf, bracket, mining, volumeOf, percent, band, volume, charge}
 use Rattle.rules.specs.Totals.{totalPaid, totalCharged}
 use Rattle.rules.specs.Fields.{bigEndian, bytesFrom, bytesOf, laid, widthOf, joined, over, overAt}
-use Rattle.rules.specs.Sheet.{lengthField, version, statesDays, rowWidth, producerAt, hoursAt, power, rowAt, dayAt, consumerAt, sheetLength, withContracts, withPeak, inVersion2}
+use Rattle.rules.specs.Sheet.{lengthField, version, statesDays, byColumn, rowWidth, producerAt, hoursAt, hourSeries, power, rowAt, dayAt, consumerAt, sheetLength, withContracts, withPeak, inVersion2, column, inColumns, rearranged}
 use Rattle.rules.specs.Result.{resultLength, rowRecord, consumerRecord, resultOf}
 use Rattle.rules.specs.Refusals.{oneOf, badVersion, badMonth, tooMany, badShare, tooHigh, highHour, highProducer, highRow, highConsumer, badReference, tooDear, badFactor, badDays, frontTests, headerTests, formTests, roomTests, figureTests, sheetTests, testsFor, tests, applies, firstOf, refusal}
 use Rattle.rules.specs.Outcome.{answered, lentAfter, outcome, bufferAfter}
@@ -30,7 +30,7 @@ settlement = tt
 
 -- From a sheet's bytes to its month, its refusal, and the result's bytes.
 unfoldable pub layout : Unit {0}
-unfolding listed bigEndian bytesFrom bytesOf laid widthOf joined over overAt lengthField version statesDays rowWidth producerAt hoursAt power rowAt dayAt consumerAt sheetLength withContracts withPeak inVersion2 resultLength rowRecord consumerRecord resultOf oneOf badVersion badMonth tooMany badShare tooHigh highHour highProducer highRow highConsumer badReference tooDear badFactor badDays frontTests headerTests formTests roomTests figureTests sheetTests testsFor tests applies firstOf refusal answered lentAfter outcome bufferAfter
+unfolding listed bigEndian bytesFrom bytesOf laid widthOf joined over overAt lengthField version statesDays byColumn rowWidth producerAt hoursAt hourSeries power rowAt dayAt consumerAt sheetLength withContracts withPeak inVersion2 column inColumns rearranged resultLength rowRecord consumerRecord resultOf oneOf badVersion badMonth tooMany badShare tooHigh highHour highProducer highRow highConsumer badReference tooDear badFactor badDays frontTests headerTests formTests roomTests figureTests sheetTests testsFor tests applies firstOf refusal answered lentAfter outcome bufferAfter
 layout = tt
 
 -- From a sheet and a list of transfers to the sheet afterwards.

@@ -135,10 +135,12 @@ stretches =
     -- producer 1: its hours follow 14 + 8,106 + 42 bytes and take 288 × 28
     figure (hoursStretch (hoursSheet 1) 1 .place) 8162
     ∷ figure (hoursStretch (hoursSheet 1) 1 .bytes) 8064
-    -- in version 2 too; there is no producer 2; version 3 is refused
+    -- in versions 2 and 3 too, by column the whole stretch; there is no producer 2; version 4 is refused
     ∷ figure (hoursStretch (hoursSheet 2) 1 .place) 8162
+    ∷ figure (hoursStretch (hoursSheet 3) 1 .place) 8162
+    ∷ figure (hoursStretch (hoursSheet 3) 1 .bytes) 8064
     ∷ figure (hoursStretch (hoursSheet 1) 2 .place) 0
-    ∷ figure (hoursStretch (hoursSheet 3) 1 .bytes) 0
+    ∷ figure (hoursStretch (hoursSheet 4) 1 .bytes) 0
     ∷ []
 
 -- By computation: the sheet is read as it was written out, and the month's result is laid as it was.

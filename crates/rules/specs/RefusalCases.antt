@@ -35,7 +35,8 @@ formCases =
     ∷ figure (refusal (header 15 1 28 1 noHoliday 0 0 0) 21) 2
     ∷ figure (refusal (header 14 0 28 1 noHoliday 0 0 0) 21) 3
     ∷ figure (refusal (header 14 2 28 1 noHoliday 0 0 0) 21) 0
-    ∷ figure (refusal (header 14 3 28 1 noHoliday 0 0 0) 21) 3
+    ∷ figure (refusal (header 14 3 28 1 noHoliday 0 0 0) 21) 0
+    ∷ figure (refusal (header 14 4 28 1 noHoliday 0 0 0) 21) 3
     -- days 27, 31, 32; weekday 0, 7, 8
     ∷ figure (refusal (header 14 1 27 1 noHoliday 0 0 0) 21) 4
     ∷ figure (refusal (header 14 1 31 7 noHoliday 0 0 0) 21) 0
@@ -53,8 +54,8 @@ formCases =
     ∷ figure (refusal (header 14 1 28 1 noHoliday 6 32 32) 21) 6
     ∷ figure (refusal (header 14 1 28 1 noHoliday 0 0 1) 21) 6
     -- several at once: the first number counts
-    ∷ figure (refusal (header 15 3 27 1 noHoliday 7 0 0) 0) 2
-    ∷ figure (refusal (header 14 3 27 1 noHoliday 7 0 0) 0) 3
+    ∷ figure (refusal (header 15 4 27 1 noHoliday 7 0 0) 0) 2
+    ∷ figure (refusal (header 14 4 27 1 noHoliday 7 0 0) 0) 3
     ∷ figure (refusal (header 14 1 27 1 noHoliday 7 0 0) 0) 4
     ∷ figure (refusal (header 14 1 28 1 noHoliday 7 0 0) 0) 5
     -- a buffer one byte short of the result's 21 + 25, and z too low; then z alone. 12 applies to the first too, and there is no 13
@@ -62,10 +63,11 @@ formCases =
     ∷ figure (refusal (lowZ 1) 46) 12
     ∷ figure (when (applies 12 (tests (lowZ 1) 45)) 1) 1
     ∷ figure (when (applies 13 (tests (lowZ 1) 45)) 1) 0
-    -- without a buffer: z too low, in sheets of versions 1 and 2; and in one of version 3
+    -- without a buffer: z too low, in sheets of versions 1, 2 and 3; and in one of version 4
     ∷ figure (firstOf (sheetTests (lowZ 1))) 12
     ∷ figure (firstOf (sheetTests (lowZ 2))) 12
-    ∷ figure (firstOf (sheetTests (lowZ 3))) 3
+    ∷ figure (firstOf (sheetTests (lowZ 3))) 12
+    ∷ figure (firstOf (sheetTests (lowZ 4))) 3
     ∷ []
 
 -- Power at the ceiling in all hours of a month of 28 days (H 672); past its end it is above, which does not count.

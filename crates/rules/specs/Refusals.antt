@@ -16,9 +16,9 @@ unfoldable pub oneOf : List Bool → Bool
 oneOf [] = false
 oneOf (test ∷ tests) = test || oneOf tests
 
--- 3: a version other than 1 and 2. [Requests, 5]
+-- 3: a version other than 1, 2 and 3. [Requests, 5 and 7]
 unfoldable pub badVersion : List ℕ → Bool
-badVersion s = oneOf (ltb (version s) 1 ∷ ltb 2 (version s) ∷ [])
+badVersion s = oneOf (ltb (version s) 1 ∷ ltb 3 (version s) ∷ [])
 
 -- 4: no month has so many days, no weekday that number, or a day past the month's end is marked as a holiday.
 unfoldable pub badMonth : Header → Bool

@@ -3,7 +3,7 @@ use Prim.Native.Nat.{ℕ, zero, suc, _+_, _-_, _*_}
 use mathlib.Core.Bool.{Bool, cond}
 use mathlib.Core.List.{List, [], _∷_, _++_}
 use lib.Dec.{ltb}
-use Rattle.rules.specs.Month.{Header, Producer, Row, Consumer, Month}
+use Rattle.rules.specs.Month.{Header, Producer, Row, Consumer, Month, hours}
 use Rattle.rules.specs.Fields.{bigEndian, bytesFrom, bytesOf, field, laid, joined, overAt}
 -- The version and the header: the struct Layout of src/lib.rt. Widths and places go by it, and nothing else does.
 pub use Rattle.rules.specs.declared.Layout.{Layout}
@@ -55,6 +55,10 @@ producerWidth l = statedWidth + hoursWidth (l .header)
 -- Whether rows state the days that they cover: from version 2 on. [Requests, 5]
 unfoldable pub statesDays : Layout → Bool
 statesDays l = ltb 1 (l .version)
+
+-- Whether a producer's hours stand by column: from version 3 on. [Requests, 7]
+unfoldable pub byColumn : Layout → Bool
+byColumn l = ltb 2 (l .version)
 
 -- The width of a row: its two days take a byte each. [Requests, 5]
 unfoldable pub rowWidth : Layout → ℕ
@@ -115,13 +119,25 @@ statedOf s at =
 abbrev pub series : ℕ → ℕ → Series
 series start step = record { start = start; step = step }
 
--- The series of a producer's powers in the stretch of its hours: an hour's three powers follow each other, hour 0 of day 1 first.
-abbrev pub hourSeries : Layout → HourSeries
-hourSeries l = record { working = series 0 12; possible = series 4 12; outside = series 8 12 }
+-- Hour by hour: an hour's working, possible and outside-use power follow each other, hour 0 of day 1 first.
+abbrev pub triples : HourSeries
+triples = record { working = series 0 12; possible = series 4 12; outside = series 8 12 }
 
--- The power that a series has in an hour, in the stretch that begins at a place.
+-- By column: all working powers, then all possible ones, then all outside uses, each from hour 0 of day 1 on. [Requests, 7]
+abbrev pub columns : Header → HourSeries
+columns h = record { working = series 0 4; possible = series (96 * h .days) 4; outside = series (192 * h .days) 4 }
+
+-- The series of a producer's powers in the stretch of its hours.
+unfoldable pub hourSeries : Layout → HourSeries
+hourSeries l = cond (byColumn l) (columns (l .header)) triples
+
+-- Where a series has its power of an hour, in the stretch that begins at a place.
+abbrev pub powerAt : ℕ → Series → ℕ → ℕ
+powerAt at x hour = at + (x .start + x .step * hour)
+
+-- That power.
 unfoldable pub power : List ℕ → ℕ → Series → ℕ → ℕ
-power s at x hour = bigEndian 4 s (at + (x .start + x .step * hour))
+power s at x hour = bigEndian 4 s (powerAt at x hour)
 
 -- A producer by its stated figures and its series of working, possible and outside-use powers.
 abbrev pub producerOf : Stated → (ℕ → ℕ) → (ℕ → ℕ) → (ℕ → ℕ) → Producer
@@ -211,3 +227,23 @@ inVersion2 s =
     ++ (bytesFrom s 5 (rowAt (layoutOf s) 0 - 5)
     ++ (joined (λ j. bytesFrom s (rowAt (layoutOf s) j) 10 ++ (1 ∷ headerOf s .days ∷ [])) (headerOf s .rows)
     ++ bytesFrom s (consumerAt (layoutOf s) 0) (consumerWidth (layoutOf s) * headerOf s .consumers)))
+
+-- The powers of a series one after the other, in the stretch that begins at a place: so many of 4 bytes. [Requests, 7]
+unfoldable pub column : List ℕ → ℕ → ℕ → Series → List ℕ
+column s at hours x = joined (λ i. bytesFrom s (powerAt at x i) 4) hours
+
+-- Producer p under a layout, its hours by column: its stated figures as they stand, then a column for each of its series. [Requests, 7]
+unfoldable pub inColumns : Layout → List ℕ → ℕ → List ℕ
+inColumns l s p =
+    bytesFrom s (producerAt l p) statedWidth
+    ++ (column s (hoursAt l p) (hours (l .header)) (hourSeries l .working)
+    ++ (column s (hoursAt l p) (hours (l .header)) (hourSeries l .possible)
+    ++ column s (hoursAt l p) (hours (l .header)) (hourSeries l .outside)))
+
+-- A sheet of version 2 written in version 3: as long as it was, each producer by column, all else as it stands. [Requests, 7]
+unfoldable pub rearranged : List ℕ → List ℕ
+rearranged s =
+    laid (field 4 (lengthField s) ∷ field 1 3 ∷ [])
+    ++ (bytesFrom s 5 (headerWidth - 5)
+    ++ (joined (inColumns (layoutOf s) s) (headerOf s .producers)
+    ++ bytesFrom s (rowAt (layoutOf s) 0) (sheetLength (layoutOf s) - rowAt (layoutOf s) 0)))

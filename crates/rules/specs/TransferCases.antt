@@ -100,11 +100,11 @@ listCases =
     -- the order of the numbers: a late entry and one past the month's days behind it; one that asks too much and a late one behind it
     ∷ figure (number (two (filed 21 0 1 0 1) (filed 0 0 1 0 1))) 13
     ∷ figure (number (two (filed 1 1 0 1 245) (filed 21 0 1 0 1))) 14
-    -- with a sheet: no whole front; the last order again; then the sheet's numbers come first (z 0.9; version 3)
+    -- with a sheet: no whole front; the last order again; then the sheet's numbers come first (z 0.9; version 4)
     ∷ figure (transferRefusal plain []) 13
     ∷ figure (transferRefusal plain (two (filed 1 1 0 1 245) (filed 21 0 1 0 1))) 14
     ∷ figure (transferRefusal (threeConsumers 1 (0 ∷ 0 ∷ 0 ∷ 0 ∷ []) (0 ∷ 0 ∷ 0 ∷ 0 ∷ []) (0 ∷ 0 ∷ 0 ∷ 0 ∷ []) 9) []) 12
-    ∷ figure (transferRefusal (threeConsumers 3 (0 ∷ 0 ∷ 0 ∷ 0 ∷ []) (0 ∷ 0 ∷ 0 ∷ 0 ∷ []) (0 ∷ 0 ∷ 0 ∷ 0 ∷ []) 10) []) 3
+    ∷ figure (transferRefusal (threeConsumers 4 (0 ∷ 0 ∷ 0 ∷ 0 ∷ []) (0 ∷ 0 ∷ 0 ∷ 0 ∷ []) (0 ∷ 0 ∷ 0 ∷ 0 ∷ []) 10) []) 3
     ∷ []
 
 -- A chain: consumer 0 gives consumer 1 all its 100.0, and consumer 1, which had 50.0 and now has 150.0, gives consumer 2 100.0. Without
