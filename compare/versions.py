@@ -6,7 +6,9 @@ from a source of their own, so that nothing else in a case is drawn otherwise fo
 import random
 from dataclasses import replace
 
-from records import DAY_ROWS, FULL_ROWS, VERSIONS, Sheet
+from records import DAY_ROWS, FULL_ROWS, Sheet
+
+DRAWN = FULL_ROWS, DAY_ROWS     # the versions that are drawn
 
 
 class Draws(random.Random):
@@ -16,7 +18,7 @@ class Draws(random.Random):
     def __init__(self, text, *, version=None):
         super().__init__(text)
         self.of_days = random.Random(f"{text}/days")
-        self.version = version or self.of_days.choice(VERSIONS)
+        self.version = version or self.of_days.choice(DRAWN)
 
 
 # ------------------------------------------------------------------ days of a row

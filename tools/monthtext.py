@@ -15,9 +15,9 @@ from typing import Callable, NamedTuple
 from files import CHECK, Trouble, read_text
 from kinds import begun_as, kind_of
 from names import LONGEST_NAME, Names, wrong_character
-from records import (BUYER, CONSUMER_FIELDS, DAY_ROWS, DAYS, FULL_ROWS, HEADER_FIELDS, HOUR_FIELDS, HOURS, PLAIN,
-                     PRODUCER_FIELDS, PRODUCER_NUMBER, ROW_DAY, ROW_DAY_FIELDS, ROW_FIELDS, SINGLE_BUYER,
-                     SINGLE_BUYER_WORDS, Consumer, Month, Producer, Row, Sheet, row_fields, states_days)
+from records import (BUYER, COLUMN_HOURS, CONSUMER_FIELDS, DAY_ROWS, DAYS, FULL_ROWS, HEADER_FIELDS, HOUR_FIELDS, HOURS,
+                     PLAIN, PRODUCER_FIELDS, PRODUCER_NUMBER, ROW_DAY, ROW_DAY_FIELDS, ROW_FIELDS, SINGLE_BUYER,
+                     SINGLE_BUYER_WORDS, VERSIONS, Consumer, Month, Producer, Row, Sheet, layout_words, row_fields)
 
 MONTH_FIELDS = [field for field in HEADER_FIELDS if field.key in ("days", "weekday")]
 TOP_KEYS = ("year", "month", "days", "weekday", "holidays", "version", "producer", "row", "consumer")
@@ -339,10 +339,10 @@ def read_version(table, rows, faults):
     with_days = next((row.place for row in rows if not row.keys.keys().isdisjoint(DAY_KEYS)), None)
     if "version" not in table:
         return DAY_ROWS if with_days else FULL_ROWS
-    version = number_between(table, "version", FULL_ROWS, DAY_ROWS, faults)
+    version = number_between(table, "version", VERSIONS[0], VERSIONS[-1], faults)
     if version == FULL_ROWS and with_days:
         faults.lines.append(f"version: is {FULL_ROWS}, where every row covers the month, but {with_days} states its "
-                            f"days; that is version {DAY_ROWS}, also if the key is left out")
+                            f"days; that is version {DAY_ROWS}, also if the key is left out, or {COLUMN_HOURS}")
     return version
 
 
@@ -493,9 +493,7 @@ def text_files(sheet, path):
     month = sheet.month
     days = [day for day in range(1, LAST_HOLIDAY + 1) if month.holidays >> day - 1 & 1]
     parts = [HEAD, f"\ndays = {month.days}\n", f"weekday = {month.weekday}  # of day 1, Monday 1 to Sunday 7\n",
-             f"holidays = {days}\n"]
-    if states_days(sheet.version) and not sheet.rows:
-        parts.append(f"version = {sheet.version}  # follows from the rows' days, if there is a row\n")
+             f"holidays = {days}\n", f"version = {sheet.version}  # {layout_words(sheet.version)}\n"]
     for number, producer in enumerate(sheet.producers):
         lines = table_lines("producer", number, PRODUCER_FIELDS, producer)
         hours = list(zip(*producer.powers()))

@@ -1,12 +1,13 @@
 """A sheet as tables for people."""
 from names import NO_NAMES, width
 from records import (CAPACITY, CONSUMER_FIELDS, HEADER, HEADER_FIELDS, HUNDREDTH, OUTSIDE_USE, PRODUCER_FIELDS,
-                     SINGLE_BUYER, SINGLE_BUYER_WORDS, Z, Header, Sheet, row_fields)
+                     SINGLE_BUYER, SINGLE_BUYER_WORDS, VERSIONS, Z, Header, Sheet, layout_words, row_fields)
 from results import BANDS
 
 WEEKDAYS = ("Monday", "Tuesday", "Wednesday", "Thursday", "Friday", "Saturday", "Sunday")
 PRODUCER_HEADS = ("producer", "attested", "deductible", "own needs", "no upward bid", "no downward bid", "no plan",
                   "k3", "k6", "k7", "k8", "k9", "k10")
+SERIES_HEADS = ("producer", "working", "possible", "outside", "step")
 HOUR_HEADS = ("producer", "working", "possible", "outside", "control hours", "control average", "D", "percent", "n")
 CONSUMER_HEADS = ("consumer", "contract", "peak", "supplier's days", "grid's days", "z", "price")
 
@@ -36,11 +37,14 @@ def sheet_lines(content, names=NO_NAMES):
         return lines
     header, sheet = Header.from_bytes(content), Sheet.from_bytes(content)
     of_row = row_fields(header.version)
+    starts = [place for kind, _, place, _ in header.records() if kind == "producer"][:len(sheet.producers)]
     hours = (f"Hours, the powers of {header.month.hours} hours summed, in MWh; "
              "control average of outside use and D, in MW; D in percent of deductible; n")
     for title, heads, records, kind, cells_of in (
         ("Producers, in MW; counts of hours; coefficients", PRODUCER_HEADS, sheet.producers, "producer",
          lambda producer: cells(PRODUCER_FIELDS, producer)),
+        ("Series of hours, the byte where each begins, from 0; the step from one hour to the next, in bytes",
+         SERIES_HEADS, starts, "producer", lambda start: series_cells(start, header)),
         (hours, HOUR_HEADS, sheet.producers, "producer", lambda producer: hour_cells(producer, header.month)),
         ("Rows, in MW; prices in tenge", ("row", *(field.words for field in of_row)), sheet.rows, "row",
          lambda row: [*party_cells(row, names), *cells(of_row, row)[2:]]),
@@ -67,6 +71,8 @@ def header_lines(content):
 
 
 def header_text(key, figure):
+    if key == "version":
+        return f"{figure} ({layout_words(figure) if figure in VERSIONS else 'no such version'})"
     if key == "weekday":
         return f"{figure} ({WEEKDAYS[figure - 1] if 1 <= figure <= 7 else 'no weekday'})"
     if key == "holidays":
@@ -82,6 +88,12 @@ def party_cells(row, names):
     """Who sells in a row, and who buys."""
     buyer = SINGLE_BUYER_WORDS if row.consumer == SINGLE_BUYER else names.cell("consumer", row.consumer)
     return [names.cell("producer", row.producer), buyer]
+
+
+def series_cells(start, header):
+    """Where the powers stand of a producer whose record starts there, and their step."""
+    found = header.series()
+    return [*(str(start + series.start) for series in found), str(found[0].step)]
 
 
 def hour_cells(producer, month):

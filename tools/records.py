@@ -2,9 +2,9 @@
 the figures of a result.
 
 Layout and limits are those of document 01: "Units and the sheet", "Result" and "When a sheet is turned down"; of a
-list, of a complex, of a result under the text of 2015 and of a sheet of version 2 those of requests 1, 3, 4 and 5 of
-document 02; the fineness of the control average is that of request 6. Capacities, powers, volumes, peaks and amounts
-are in tenths of a megawatt, prices in tiyn, coefficients in millionths.
+list, of a complex, of a result under the text of 2015 and of sheets of versions 2 and 3 those of requests 1, 3, 4, 5
+and 7 of document 02; the fineness of the control average is that of request 6. Capacities, powers, volumes, peaks and
+amounts are in tenths of a megawatt, prices in tiyn, coefficients in millionths.
 """
 import struct
 import sys
@@ -21,7 +21,10 @@ LOWEST_Z, TOP_Z = 10, 100
 ONE = 1_000_000      # a coefficient of 1
 SINGLE_BUYER = 255
 SINGLE_BUYER_WORDS = "single buyer"
-VERSIONS = FULL_ROWS, DAY_ROWS = 1, 2    # rows of version 1 cover the month, those of version 2 state their days
+# Rows of version 1 cover the month, those of version 2 state their days; version 3 is version 2 with a producer's hours
+# as three columns, and not as a triple for each hour.
+VERSIONS = FULL_ROWS, DAY_ROWS, COLUMN_HOURS = 1, 2, 3
+REARRANGED = {DAY_ROWS: COLUMN_HOURS, COLUMN_HOURS: DAY_ROWS}    # versions that differ in the order of the powers alone
 RESULT_VERSION = 1    # under every version of the sheet
 LIST_VERSION = 1
 CONTROL_HOURS = range(17, 23)    # of a control day
@@ -107,7 +110,7 @@ ROW_FIELDS = (
     Field("volume", "volume", 4, CAPACITY),
     Field("price", "price", 4, PRICE),
 )
-# They follow in a row of version 2; the first day of the month is 1.
+# They follow in a row from version 2 on; the first day of the month is 1.
 ROW_DAY_FIELDS = (
     Field("first_day", "first day", 1, ROW_DAY),
     Field("last_day", "last day", 1, ROW_DAY),
@@ -158,6 +161,7 @@ ENTRY_PACKING = packing(ENTRY_FIELDS)
 COMPLEX_PACKING = packing(COMPLEX_FIELDS)
 COMPLEX_HOUR_PACKING = packing(COMPLEX_HOUR_FIELDS)
 HEADER, FRONT, ENTRY = HEADER_PACKING.size, FRONT_PACKING.size, ENTRY_PACKING.size
+POWER = HOUR_FIELDS[0].width
 COMPLEX_FRONT, COMPLEX_HOUR = COMPLEX_PACKING.size, COMPLEX_HOUR_PACKING.size
 
 
@@ -166,12 +170,44 @@ def states_days(version):
     return version >= DAY_ROWS
 
 
+def in_columns(version):
+    """Whether a producer's hours stand as three columns."""
+    return version == COLUMN_HOURS
+
+
+def layout_words(version):
+    """What a version's layout is, in words."""
+    return (f"rows {'state their days' if states_days(version) else 'cover the month'}, "
+            f"hours as {'columns' if in_columns(version) else 'triples'}")
+
+
 def row_fields(version):
     return ROW_FIELDS + ROW_DAY_FIELDS if states_days(version) else ROW_FIELDS
 
 
 def row_packing(version):
     return DAY_ROW_PACKING if states_days(version) else ROW_PACKING
+
+
+class Series(NamedTuple):
+    """Where one of the three powers stands in a producer's record, hour after hour."""
+    start: int    # the place of hour 0 of day 1, from the record's first byte
+    step: int     # bytes from one hour to the next
+    hours: int
+
+    def place(self, hour):
+        return self.start + self.step * hour
+
+    def among_powers(self):
+        """Its part of all powers of the record, as a slice."""
+        first, step = (self.start - PRODUCER_PACKING.size) // POWER, self.step // POWER
+        return slice(first, first + step * self.hours, step)
+
+
+def series_of(version, hours):
+    """The Series of each of HOUR_FIELDS: all that the layouts of hours differ in."""
+    width, step = (POWER * hours, POWER) if in_columns(version) else (POWER, HOUR_PACKING.size)
+    return [Series(PRODUCER_PACKING.size + width * place, step, hours) for place in range(len(HOUR_FIELDS))]
 
 
 def complex_length(days):
@@ -238,6 +274,10 @@ class Header(NamedTuple):
     def row_length(self):
         return row_packing(self.version).size
 
+    def series(self):
+        """Where the powers of the hours stand in a producer's record."""
+        return series_of(self.version, self.month.hours)
+
     @property
     def sheet_length(self):
         """The length that the version, the counts and the days ask for."""
@@ -272,11 +312,12 @@ class Producer:
         return cls(*figures[:3], list(figures[3:6]), list(figures[6:]), *powers)
 
     @classmethod
-    def from_bytes(cls, content):
+    def from_bytes(cls, content, version):
         powers = array("I", content[PRODUCER_PACKING.size:])
         if sys.byteorder == "little":
             powers.byteswap()
-        return cls.of(PRODUCER_PACKING.unpack_from(content), (powers[0::3], powers[1::3], powers[2::3]))
+        of_hours = series_of(version, len(powers) // len(HOUR_FIELDS))
+        return cls.of(PRODUCER_PACKING.unpack_from(content), [powers[series.among_powers()] for series in of_hours])
 
     def figures(self):
         return [self.attested, self.deductible, self.own_needs, *self.missing, *self.given]
@@ -284,11 +325,11 @@ class Producer:
     def powers(self):
         return self.working, self.possible, self.outside
 
-    def to_bytes(self):
-        powers = array("I", bytes(12 * len(self.working)))
-        powers[0::3] = self.working
-        powers[1::3] = self.possible
-        powers[2::3] = self.outside
+    def to_bytes(self, version):
+        hours = len(self.working)
+        powers = array("I", bytes(HOUR_PACKING.size * hours))
+        for series, figures in zip(series_of(version, hours), self.powers()):
+            powers[series.among_powers()] = figures
         if sys.byteorder == "little":
             powers.byteswap()
         return PRODUCER_PACKING.pack(*self.figures()) + powers.tobytes()
@@ -304,9 +345,8 @@ class Row:
     last_day: int = None
 
     @classmethod
-    def from_bytes(cls, content):
-        packing_of_row = ROW_PACKING if len(content) == ROW_PACKING.size else DAY_ROW_PACKING
-        return cls(*packing_of_row.unpack(content))
+    def from_bytes(cls, content, version):
+        return cls(*row_packing(version).unpack(content))
 
     def figures(self):
         """The figures of its fields: those that it states."""
@@ -335,7 +375,7 @@ class Consumer:
     price: int
 
     @classmethod
-    def from_bytes(cls, content):
+    def from_bytes(cls, content, _):
         return cls(*CONSUMER_PACKING.unpack(content))
 
     def figures(self):
@@ -379,11 +419,11 @@ class Sheet:
         for kind, _, place, length in header.records():
             if place + length > len(content):
                 break
-            found[kind].append(RECORDS[kind].from_bytes(content[place:place + length]))
+            found[kind].append(RECORDS[kind].from_bytes(content[place:place + length], header.version))
         return cls(header.month, *found.values(), version=header.version)
 
     def to_bytes(self):
-        body = b"".join((*(producer.to_bytes() for producer in self.producers),
+        body = b"".join((*(producer.to_bytes(self.version) for producer in self.producers),
                          *(row.to_bytes(self.version, self.month) for row in self.rows),
                          *(consumer.to_bytes() for consumer in self.consumers)))
         if self.surplus > 0:
@@ -397,6 +437,13 @@ class Sheet:
     def volume_of(self, number):
         """T + B of a producer: the volumes of all its rows."""
         return sum(row.volume for row in self.rows if row.producer == number)
+
+
+def rearranged(content):
+    """The bytes of a sheet of version 2 or 3 that gets past refusal 6, in the other of the two."""
+    sheet = Sheet.from_bytes(content)
+    sheet.version = REARRANGED[sheet.version]
+    return sheet.to_bytes()
 
 
 # ------------------------------------------------------------------ the fields of a sheet with their places
@@ -431,16 +478,23 @@ def entries(content):
     parts = {"producer": (PRODUCER_FIELDS, PRODUCER_PACKING),
              "row": (row_fields(header.version), row_packing(header.version)),
              "consumer": (CONSUMER_FIELDS, CONSUMER_PACKING)}
-    for kind, number, place, length in header.records():
-        end = place + length
+    for kind, number, start, _ in header.records():
         fields, layout = parts[kind]
+        place = start
         for field, figure in zip(fields, layout.unpack_from(content, place)):
             yield Entry(place, kind, number, None, field, figure)
             place += field.width
-        for hour, powers in enumerate(HOUR_PACKING.iter_unpack(content[place:end])):
-            for field, figure in zip(HOUR_FIELDS, powers):
-                yield Entry(place, kind, number, hour, field, figure)
-                place += field.width
+        if kind == "producer":
+            yield from hour_entries(content, header, number, start)
+
+
+def hour_entries(content, header, number, start):
+    """The powers of a producer, whose record starts there, in the sheet's order."""
+    powers = struct.unpack_from(f">{len(HOUR_FIELDS) * header.month.hours}I", content, start + PRODUCER_PACKING.size)
+    found = [Entry(start + series.place(hour), "producer", number, hour, field, figure)
+             for field, series in zip(HOUR_FIELDS, header.series())
+             for hour, figure in enumerate(powers[series.among_powers()])]
+    return sorted(found, key=lambda entry: entry.place)
 
 
 def row_volumes(sheet):

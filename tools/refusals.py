@@ -27,7 +27,7 @@ LAST_FILING_DAY = 20
 RULES = {
     1: f"the sheet has fewer than {HEADER} bytes",
     2: "the length field is not the number of bytes",
-    3: f"the version is not {' or '.join(map(str, VERSIONS))}",
+    3: f"the version is not {', '.join(map(str, VERSIONS[:-1]))} or {VERSIONS[-1]}",
     4: "there is no such month: days are 28 to 31, the weekday of day 1 is 1 to 7, no holiday is past the last day",
     5: f"too many records: at most {MOST_PRODUCERS} producers, {MOST_ROWS} rows, {MOST_CONSUMERS} consumers",
     6: "the length is not what the version, the counts and the days ask for",
@@ -250,6 +250,12 @@ def first_refusal(content):
 def without_month(content):
     """What keeps the month of a sheet's header from being known, whatever else is wrong with the sheet."""
     return [refusal for refusal in form_refusals(content) if refusal.number in (1, 3, 4)]
+
+
+def form_refusal(content):
+    """The first number of the form that applies to a sheet, as first_refusal."""
+    first = first_refusal(content)
+    return first if first and first.number in FORM else None
 
 
 def not_as_text(content):

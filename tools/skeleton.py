@@ -12,6 +12,7 @@ HEAD = """\
 year = {year}
 month = {month}
 holidays = []  # dates, as {year:04}-{month:02}-01
+# version = 3  # of the sheet, its hours as columns; without this line 2 if a row states its days, else 1
 """
 # Under a row: two keys that may be left out.
 ROW_DAYS = """\
