@@ -24,7 +24,7 @@ MARKS = {
     "consumer": ["onlyconsumer", "firstconsumer", "lastconsumer"],
     "month": [f"days{days}" for days in range(28, 32)] + ["holiday"],
     "slips that would show": ["hour16", "hour23", "weekend", "swapped"],
-    "version": ["version2"],
+    "version": ["version2", "version3"],
 }
 
 # ------------------------------------------------------------------ two records for one sheet

@@ -16,6 +16,8 @@ sys.setrecursionlimit(3000)
 # What the libraries give: a name, its library, its count of arguments, the Python text with a place for each of them.
 NUMBERS, BOOLS = "library Prim.Native.Nat", "library mathlib.Core.Bool"
 TESTS, LISTS = "library lib.Dec", "library lib.ListN"
+CORE_LISTS = "library mathlib.Core.List"
+ALSO_IN = {"replicate": CORE_LISTS}    # a second library that has the same
 LIBRARY = {
     "zero": (NUMBERS, 0, "0"),
     "suc": (NUMBERS, 1, "({} + 1)"),
@@ -39,7 +41,7 @@ LIBRARY = {
 SIGN_TEXT = {"+": "({} + {})", "-": "less({}, {})", "*": "({} * {})", "/": "quotient({}, {})", "%": "remainder({}, {})",
              "^": "({} ** {})", "&&": "({} and {})", "||": "({} or {})", "∷": "(({},) + {})", "++": "({} + {})"}
 SIGN_LIBRARY = {**dict.fromkeys(("+", "-", "*", "/", "%", "^"), NUMBERS), **dict.fromkeys(("&&", "||"), BOOLS),
-                **dict.fromkeys(("∷", "++"), "library mathlib.Core.List")}
+                **dict.fromkeys(("∷", "++"), CORE_LISTS)}
 
 
 # ------------------------------------------------------------------ what the functions stand on
@@ -158,7 +160,7 @@ class Translator:
             return ("definition", place, inner)
         if place in self.modules and inner in self.modules[place].constructors:
             return ("constructor", place, inner)
-        if inner in LIBRARY and place == LIBRARY[inner][0]:
+        if inner in LIBRARY and place in (LIBRARY[inner][0], ALSO_IN.get(inner)):
             return ("library", inner)
         raise Unknown(f"{module}.antt: the name {name}")
 

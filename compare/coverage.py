@@ -2,13 +2,14 @@
 from collections import Counter
 
 from bands import EDGES
+from records import VERSIONS
 from refusals import FIGURES
 
 JUDGED_FROM = 2000  # fewer cases need not reach every corner
 
 # The rival's marks of request 5, in lines with a title: of sheets that are settled, and of those that are refused.
 MARKS_OF_DAYS = {
-    "version": ["version1", "version2"],
+    "version": [f"version{version}" for version in VERSIONS],
     "days covered": ["coversall", "coverspart", "coversone", "beginsinside", "endsinside", "bothinside", "firstdayonly",
                      "lastdayonly"],
     "rounding for the days": ["tie_days", "daysdown", "daysup", "daysexact"],
@@ -16,7 +17,7 @@ MARKS_OF_DAYS = {
     "volumes of the days": ["cutofdays", "tofdays", "sofdays"],
 }
 MARKS_OF_DAYS_REFUSED = {
-    "3 and 6 by version": ["3version0", "3version3", "3versionabove", "6rows10", "6rows12"],
+    "3 and 6 by version": ["3version0", "3version4", "3versionabove", "6rows10", "6rows12"],
     "18 beside another": [f"N{number}with18" for number in FIGURES if number != 18],
     "18": [f"18{cause}" for cause in ("first0", "lastbefore", "lastafter", "firstrow", "lastrow")],
 }
@@ -29,6 +30,14 @@ MARKS_OF_HUNDREDTHS = {
     "other band by the tenth": [f"k1{side}{edge}" for edge in EDGES for side in ("down", "up")],
     "least D and deductible": ["k1d1", "k1deductible1"],
     "slips of hundredths": ["k1tenth", "k1unscaled", "k1ptenths", "k1tenthpenalty"],
+}
+
+# Those of request 7: slips in the reading of hours that would have shown, and 9 by what stands in one column alone.
+MARKS_OF_COLUMNS = {
+    "columns in another order": ["hourbyhour", "possiblefirst", "outsidefirst", "workinglast"],
+    "columns begun late": ["secondhour", "secondbyte", "thirdhour", "thirdbyte"],
+    "columns in version 2": ["bycolumn"],
+    "9 by column": ["9column1", "9column2", "9column3", "9lasthour3"],
 }
 
 

@@ -3,8 +3,10 @@ from collections import Counter
 from typing import NamedTuple
 
 import sheets
-from records import DAY_ROWS, Header, result_figures
+from records import VERSIONS, Header, result_figures
 from running import CHUNK
+
+LATER_VERSIONS = VERSIONS[1:]
 
 
 class Rule(NamedTuple):
@@ -43,13 +45,13 @@ def against_rule(first, second):
 def check_pairs(run, start, cases, answers, rule=DEMAND_3):
     """A rule of cases that follow each other by two, with results on which both programs agree.
 
-    Counts the pairs that had a figure that moved, and those of version 2.
+    Counts the pairs that had a figure that moved, and those of each version.
     """
     found = Counter()
     for place in range(0, len(cases), 2):
         first, second = (rule.figures(cases[number].sheet, answers[number]) for number in (place, place + 1))
         found["moved"] += first != second
-        found["version 2"] += Header.from_bytes(cases[place].sheet).version == DAY_ROWS
+        found[Header.from_bytes(cases[place].sheet).version] += 1
         wrong = against_rule(first, second)
         if wrong:
             raise run.report_pair(start + place, *cases[place:place + 2], f"{rule.name}: {wrong}")
@@ -69,10 +71,11 @@ def compare_pairs(run, draw_pairs, count, rule=DEMAND_3):
 
 
 def moved_in(found, count, what, rule=DEMAND_3):
-    """Says in how many pairs a figure moved, and how many are of version 2; gives the words of a failure if either are
-    too few, or none."""
-    print(f"{rule.name}: {count} {what}, {found['version 2']} of version 2, {found['moved']} with a figure that moved, "
-          "none against it")
+    """Says in how many pairs a figure moved, and how many are of each later version; gives the words of a failure if
+    any of these are too few, or none."""
+    of_versions = ", ".join(f"{found[version]} of version {version}" for version in LATER_VERSIONS)
+    print(f"{rule.name}: {count} {what}, {of_versions}, {found['moved']} with a figure that moved, none against it")
     if 2 * found["moved"] < count:
         return f"in less than half of the {what} a figure moved"
-    return f"less than a quarter of the {what} are of version 2" if 4 * found["version 2"] < count else ""
+    rare = [version for version in LATER_VERSIONS if 6 * found[version] < count]
+    return f"less than a sixth of the {what} are of version {rare[0]}" if rare else ""

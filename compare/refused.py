@@ -1,5 +1,5 @@
-"""Kinds of sheets that are turned down, by every cause that document 01 and request 5 name; sheets that break several
-rules at once; damaged sheets.
+"""Kinds of sheets that are turned down, by every cause that document 01 and requests 5 and 7 name; sheets that break
+several rules at once; damaged sheets.
 
 A cause changes an accepted Sheet so that it breaks one rule and none that is tried before it.
 """
@@ -9,12 +9,14 @@ from typing import NamedTuple
 
 from accepted import ordinary_month
 from drawing import draw_consumer, draw_sheet
-from records import (DAY_ROWS, FULL_ROWS, HEADER, LOWEST_Z, MOST_CONSUMERS, MOST_PRODUCERS, MOST_ROWS, ONE,
-                     SINGLE_BUYER, TOP_CAPACITY, TOP_PRICE, TOP_Z, Row, result_length, row_packing)
+from records import (COLUMN_HOURS, DAY_ROWS, FULL_ROWS, HEADER, LOWEST_Z, MOST_CONSUMERS, MOST_PRODUCERS, MOST_ROWS,
+                     ONE, SINGLE_BUYER, TOP_CAPACITY, TOP_PRICE, TOP_Z, VERSIONS, Row, result_length, row_packing,
+                     states_days)
 from refusals import BUFFER_NUMBER, HEADER_PLACES, TRIED, tried_from, turn
 from versions import in_version
 
 LARGEST_4 = 2 ** 32 - 1
+NEXT_VERSION = VERSIONS[-1] + 1
 
 
 @dataclass
@@ -73,7 +75,7 @@ def version_is(figure):
 
 
 def version_other(rng, sheet, pick):
-    sheet.version = rng.randrange(3, 255)
+    sheet.version = rng.randrange(NEXT_VERSION, 255)
 
 
 def days_are(figure):
@@ -211,7 +213,7 @@ def z_is(figure):
 def days_of_row(choose):
     """choose: first and last day, from a random.Random and the days of the month."""
     def cause(rng, sheet, pick):
-        sheet.version = DAY_ROWS
+        sheet.version = max(sheet.version, DAY_ROWS)
         row = pick(sheet.rows)
         row.first_day, row.last_day = choose(rng, sheet.month.days)
     return cause
@@ -254,7 +256,7 @@ def causes_of_length():
         yield 2, name, "", length_field(change)
     yield 2, "bytes_lost", "consumers", lost_bytes
     yield 2, "bytes_added", "", added_bytes
-    for figure in (0, 3, 255):
+    for figure in (0, NEXT_VERSION, 255):
         yield 3, f"version_{figure}", "", version_is(figure)
     yield 3, "version_other", "", version_other
     yield 6, "one_byte_more", "", surplus_of(1)
@@ -406,6 +408,7 @@ def accepted_sheet(rng):
 REFUSALS = {number: {cause.name: refused_sheet(cause) for cause in CAUSES[number]} for number in CAUSES}
 REFUSALS[1] = {name: short_sheet(count) for name, count in SHORT_SHEETS.items()}
 REFUSALS[6].update(rows_of_10_bytes_in_version_2=rows_of_another_version(FULL_ROWS, DAY_ROWS),
+                   rows_of_10_bytes_in_version_3=rows_of_another_version(FULL_ROWS, COLUMN_HOURS),
                    rows_of_12_bytes_in_version_1=rows_of_another_version(DAY_ROWS, FULL_ROWS))
 REFUSALS[18].update(only_the_first_row=wrong_row(first_of, few_rows), only_the_last_row=wrong_row(last_of, few_rows),
                     only_the_last_of_32=wrong_row(last_of, lambda rng: MOST_ROWS))
@@ -433,8 +436,8 @@ def causes_to_join(rng, numbers):
 
 
 def numbers_to_join(rng, first):
-    """The number and those tried after it that a sheet of the case's version can break: 18 is for version 2."""
-    return [number for number in tried_from(first) if number != 18 or rng.version == DAY_ROWS]
+    """The number and those tried after it that a sheet of the case's version can break: 18 is for versions 2 and 3."""
+    return [number for number in tried_from(first) if number != 18 or states_days(rng.version)]
 
 
 def break_rules(rng, first, later, room):

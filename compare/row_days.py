@@ -1,4 +1,4 @@
-"""Sheets of version 2 that are accepted, each drawn to reach a corner of request 5: the days that a row covers."""
+"""Sheets of versions 2 and 3 that are accepted, each drawn to reach a corner of request 5: the days of a row."""
 from fractions import Fraction
 from math import gcd
 
@@ -7,7 +7,7 @@ import bands
 from drawing import draw_price, draw_sheet, full_producer, one_row_sheet, plain_consumer
 from records import TOP_CAPACITY, Month, Row, Sheet
 from ties import sheet_before_half
-from versions import DAY_FORMS, PARTS, in_form, with_days
+from versions import DAY_FORMS, PARTS, in_form, in_layouts, with_days
 
 LENGTHS = range(28, 32)
 HALVED = (28, 30)    # months of which a half has whole days
@@ -141,4 +141,5 @@ def credit_of_the_days(rng):
     return covering(rng, sheet, covered)
 
 
-ROW_DAYS = {**FORMS, **ROUNDINGS, **TURNS, **FULL_VOLUMES, credit_of_the_days.__name__: credit_of_the_days}
+ROW_DAYS = in_layouts({**FORMS, **ROUNDINGS, **TURNS, **FULL_VOLUMES,
+                       credit_of_the_days.__name__: credit_of_the_days})

@@ -19,6 +19,7 @@ import programs
 import refused
 import ties
 from case_kinds import Kinds, in_bytes
+from columns import COLUMNS, HIGH_COLUMNS
 from records import HEADER, MOST_CONSUMERS, MOST_ROWS, TOP_CAPACITY, TOP_Z
 from refusals import BUFFER_NUMBER, FORM, TRIED
 from refused import SETTLEMENT_ROOM
@@ -68,6 +69,8 @@ GROUPS = {
     "credits": in_versions(accepted.CREDITS),
     "largest": in_versions(accepted.LARGEST),
     "row_days": ROW_DAYS,
+    "columns": COLUMNS,
+    "high_columns": HIGH_COLUMNS,
     "damaged": refused.DAMAGED,
     "buffers": {form: refused.accepted_sheet for form in BUFFERS},
     "ordinary": in_versions(accepted.ORDINARY),
@@ -77,7 +80,7 @@ GROUPS = {
 SHARES = {
     "checked_months": 1, "slips": 4, "several_rules": 8, "bands_of_k1": 10, "bands_of_consumers": 8, "ties": 10,
     "zero_counts": 3, "months": 8, "ceilings": 4, "powers": 4, "cut": 5, "credits": 5, "largest": 2, "row_days": 6,
-    "damaged": 6, "buffers": 4, "ordinary": 6, **{f"refusal_{number}": 1 for number in TRIED},
+    "columns": 3, "high_columns": 1, "damaged": 6, "buffers": 4, "ordinary": 6, **{f"refusal_{number}": 1 for number in TRIED},
 }
 
 # ------------------------------------------------------------------ cases
@@ -127,6 +130,8 @@ class SheetKinds(Kinds):
             return None
         if group == "powers":
             return 9 if powers.is_above(corner) else 0
+        if group == "high_columns":
+            return 9
         if corner == "rows_without_producers":
             return 10
         if group == "buffers" and corner in ("none", "shorter", "shorter_by_one"):
@@ -139,7 +144,8 @@ KINDS = SheetKinds("", GROUPS, SHARES, SETTLEMENT_ROOM)
 
 # ------------------------------------------------------------------ pairs of demand 3
 
-PAIR_GROUPS = ("bands_of_k1", "bands_of_consumers", "ties", "cut", "credits", "row_days", "ordinary", "months", "slips")
+PAIR_GROUPS = ("bands_of_k1", "bands_of_consumers", "ties", "cut", "credits", "row_days", "columns", "ordinary",
+               "months", "slips")
 
 
 def step(rng, figure):

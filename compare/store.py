@@ -119,7 +119,7 @@ TEXT_2015 = {
     "text_2015_ties": ("volumes", "charges"),
     "text_2015_rooms": ("counts/no_consumers", "counts/one_consumer", "counts/all_32_consumers", "buffers", "rooms"),
     "text_2015_refusals": (
-        "refusal_1/thirteen_bytes", "refusal_2/one_more", "refusal_3/version_3", "refusal_4/days_27",
+        "refusal_1/thirteen_bytes", "refusal_2/one_more", "refusal_3/version_4", "refusal_4/days_27",
         "refusal_5/consumers_33", "refusal_6/one_byte_more", "refusal_7", "refusal_8/no_plan", "refusal_9/peak",
         "refusal_9/contract", "refusal_9/outside_last_hour", "refusal_10/no_producers", "refusal_11/consumer_price",
         "refusal_12/z_9", "refusal_12/grid_days_next", "several_rules/6_and_7",

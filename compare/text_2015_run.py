@@ -27,7 +27,7 @@ MARKS = {
     "ends": ["largest", "priciest", "zeroprice"],
     "consumers": [f"consumers{count}" for count in (0, 1, 32)],
     "room": ["roomexact", "roomless2021"],
-    "version": ["version2"],
+    "version": ["version2", "version3"],
     **MARKS_OF_DAYS_REFUSED,
 }
 

@@ -21,7 +21,7 @@ MARKS = {
     "15": ["N15"] + [f"15{cause}" for cause in ("giver", "taker", "turn", "first", "oneabove")],
     "18": ["18with13"],
     "applied": ["done", "entries0", "entries1", "entriesmany", "day1", "day20", "amount0", "takerfull", "giverempty",
-                "chain", "repeated", "version2"],
+                "chain", "repeated", "version2", "version3"],
 }
 
 # ------------------------------------------------------------------ demand 3

@@ -1,14 +1,13 @@
-"""The version in which a case is drawn, and the days of its rows in version 2.
+"""The version in which a case is drawn, and the days of its rows from version 2 on.
 
-A sheet is drawn in version 1; where its case is one of version 2, its rows are then given days. Version and days come
-from a source of their own, so that nothing else in a case is drawn otherwise for them.
+A sheet is drawn in version 1; where its case is one of version 2 or 3, its rows are then given days, and in version 3
+its hours are written by column. Version and days come from a source of their own, so that nothing else in a case is
+drawn otherwise for them.
 """
 import random
 from dataclasses import replace
 
-from records import DAY_ROWS, FULL_ROWS, Sheet
-
-DRAWN = FULL_ROWS, DAY_ROWS     # the versions that are drawn
+from records import COLUMN_HOURS, DAY_ROWS, FULL_ROWS, VERSIONS, Sheet
 
 
 class Draws(random.Random):
@@ -18,7 +17,7 @@ class Draws(random.Random):
     def __init__(self, text, *, version=None):
         super().__init__(text)
         self.of_days = random.Random(f"{text}/days")
-        self.version = version or self.of_days.choice(DRAWN)
+        self.version = version or self.of_days.choice(VERSIONS)
 
 
 # ------------------------------------------------------------------ days of a row
@@ -65,14 +64,39 @@ def some_days(rng, sheet):
 
 def in_version(rng, sheet, give_days=some_days):
     """A sheet, drawn in version 1, in the version of its case."""
-    return sheet if rng.version == FULL_ROWS else give_days(rng.of_days, sheet)
+    return sheet if rng.version == FULL_ROWS else in_layout(rng, give_days(rng.of_days, sheet))
+
+
+def in_layout(rng, sheet):
+    """A sheet of version 2, by column if its case is one of version 3."""
+    return by_column(sheet) if rng.version == COLUMN_HOURS else sheet
+
+
+def by_column(sheet):
+    """A sheet in version 3; rows that have no days cover the month."""
+    return replace(sheet, version=COLUMN_HOURS)
+
+
+def changed(corners, change):
+    """Corners, with a change of what each draws: a function of the random.Random and the sheet."""
+    def corner(draw):
+        return lambda rng: change(rng, draw(rng))
+    return {name: corner(draw) for name, draw in corners.items()}
 
 
 def in_versions(corners, give_days=some_days):
     """Corners that draw accepted sheets, each in the version of its case."""
-    def corner(draw):
-        return lambda rng: in_version(rng, draw(rng), give_days)
-    return {name: corner(draw) for name, draw in corners.items()}
+    return changed(corners, lambda rng, sheet: in_version(rng, sheet, give_days))
+
+
+def in_layouts(corners):
+    """Corners that draw sheets of version 2, each by column if its case is one of version 3."""
+    return changed(corners, in_layout)
+
+
+def by_columns(corners):
+    """Corners, each in version 3."""
+    return changed(corners, lambda rng, sheet: by_column(sheet))
 
 
 def same_in_version_2(content):
