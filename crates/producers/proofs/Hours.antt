@@ -9,6 +9,7 @@ use lib.ListN.{length, take, drop, length-take, length-drop}
 use Rattle.rules.specs.declared.Layout.{Layout}
 use Rattle.rules.specs.declared.Ratio.{Ratio}
 use Rattle.rules.specs.declared.Series.{Series}
+use Rattle.rules.specs.declared.HourSeries.{HourSeries}
 use Rattle.rules.specs.declared.Stated.{Stated}
 use Rattle.rules.specs.Range.{listed}
 use Rattle.rules.specs.Month.{hours}
@@ -70,23 +71,25 @@ module _ (l : Layout) (s : List ℕ) (p : ℕ) (fits : hoursAt l p + hoursWidth 
     unfolding met
     met-read i b = ap₂ (λ (m w : ℕ). min m w) (asked-read i b) (read (hourSeries l .working) working-spans i b)
 
-    pub k4-known : {k : K4} {r : Ratio} → k ≡ k4In part (hourSeries l .working) (hourSeries l .possible) (l .header .days) S → r ≡ ratio (k .met .0) (k .asked .0)
+    pub k4-known : {of : HourSeries} {summed : ℕ} {k : K4} {r : Ratio} → of ≡ hourSeries l → summed ≡ S
+        → k ≡ k4In part (of .working) (of .possible) (l .header .days) summed → r ≡ ratio (k .met .0) (k .asked .0)
         → r ≡ exactK4 (l .header) (producerUnder l s p) S
     unfolding k4In exactK4
-    k4-known sums is =
-        rw (is, sums, standing (hourSeries l .working) working-spans, standing (hourSeries l .possible) possible-spans, sum-same _ _ {n = hours (l .header)} refl met-read, sum-same _ _ {n = hours (l .header)} refl asked-read)
+    k4-known hour total sums is =
+        rw (is, sums, hour, total, standing (hourSeries l .working) working-spans, standing (hourSeries l .possible) possible-spans, sum-same _ _ {n = hours (l .header)} refl met-read, sum-same _ _ {n = hours (l .header)} refl asked-read)
 
   -- k1.
   module _ (few : l .header .days ≤ 31) (from : 1 ≤ l .header .weekday) (to : l .header .weekday ≤ 7) {on : List Bool} (days : on ≡ listed (tableDay (l .header)) 256) where
-    average : {a : ℕ} → a ≡ averageIn hundredth part (Hourly.Power (hourSeries l .outside)) (l .header .days) on
+    average : {of : HourSeries} {a : ℕ} → of ≡ hourSeries l → a ≡ averageIn hundredth part (Hourly.Power (of .outside)) (l .header .days) on
         → a ≡ controlAverage hundredth (l .header) (producerUnder l s p .outsideUse)
-    average is =
+    average hour is =
         is
+        ∙ ap (λ (x : HourSeries). averageIn hundredth part (Hourly.Power (x .outside)) (l .header .days) on) hour
         ∙ average-known (l .header) few from to days part (Hourly.Power (hourSeries l .outside)) (producerUnder l s p .outsideUse)
         (unfold hourlyStands in standing (hourSeries l .outside) outside-spans) (read (hourSeries l .outside) outside-spans) hundredth
 
-    pub k1-known : {a r : ℕ} {x : Stated} (T : ℕ) → a ≡ averageIn hundredth part (Hourly.Power (hourSeries l .outside)) (l .header .days) on → x ≡ statedOf s (producerAt l p)
+    pub k1-known : {of : HourSeries} {a r : ℕ} {x : Stated} (T : ℕ) → of ≡ hourSeries l → a ≡ averageIn hundredth part (Hourly.Power (of .outside)) (l .header .days) on → x ≡ statedOf s (producerAt l p)
         → r ≡ millionthsOf (lessPenalty T (penaltyFrom a (x .deductible)))
         → r ≡ k1 (l .header) (producerUnder l s p) T
     unfolding k1 exactK1 penalty overuse
-    k1-known T averaged stated is = rw (is, average averaged, stated)
+    k1-known T hour averaged stated is = rw (is, average hour averaged, stated)

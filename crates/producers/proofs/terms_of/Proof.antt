@@ -73,10 +73,10 @@ returns c =
     let x = u .before .before .before .before .producer .ensures ∙ whole l s p fits in
     let summed = u .before .before .before .summed-of .ensures ∙ summed-is m p (a .args .v) _ (a .pre .1 .0 .0) (ap (λ (y : Stated). y .deductible) x) in
     let lent = u .before .stretch .ensures .0 in
-    let sums = rw (u .hour-series .ensures, summed) at (c .before .before .before .before .before .k4-sums .ensures .0) in
-    let fourth = k4-known l s p fits lent (summedCapacity m p) sums (c .before .exact-k4 .ensures) in
-    let counted = rw (u .hour-series .ensures) at (c .before .before .before .average-to-hundredth .ensures .0) in
-    let first = k1-known l s p fits lent (a .pre .0 .0) (a .pre .1 .1 .0) (a .pre .1 .1 .1) (a .pre .1 .1 .2) (a .args .v .support .0) counted x (c .before .before .k1-of .ensures)
+    let of = u .hour-series .ensures in
+    let fourth = k4-known l s p fits lent (summedCapacity m p) of summed (c .before .before .before .before .before .k4-sums .ensures .0) (c .before .exact-k4 .ensures) in
+    let counted = c .before .before .before .average-to-hundredth .ensures .0 in
+    let first = k1-known l s p fits lent (a .pre .0 .0) (a .pre .1 .1 .0) (a .pre .1 .1 .1) (a .pre .1 .1 .2) (a .args .v .support .0) of counted x (c .before .before .k1-of .ensures)
     ∙ ap (λ (v : Volumes). k1 (l .header) (producerUnder l s p) (v .support .0)) (a .pre .1 .0 .0) in
     let excess = left-stated l s p x summed (u .before .before .excess-of .ensures) in
     rw (ap tenths excess, c .ks-of .ensures ∙ ks-known l s p x first fourth)
