@@ -80,8 +80,7 @@ def moved_in(moved, count):
 def compare_averages(options, folder):
     """Gives the words of what failed without being a difference, or none."""
     where = options.seed, folder, options.keep
-    failed = compare_cases(RecordRun("record", *where), SheetRun("record-sheet", *where), options.records, MARKS,
-                           "taken; no byte but the peak's changed")
+    failed = compare_cases(RecordRun, where, options.records, MARKS, "taken; no byte but the peak's changed")
     return failed or moved_in(
         compare_pairs(RecordRun("pair-record", *where), SheetRun("pair-record-sheet", *where), options.record_pairs),
         options.record_pairs)

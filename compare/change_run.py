@@ -1,8 +1,10 @@
-"""What the parts of a run that change sheets share: both programs change the same sheets, and settle what comes out."""
+"""What the parts of a run that change sheets share: both programs change the same sheets, also rearranged, and settle
+what comes out."""
 import sheets
 from coverage import Coverage
 from records import result_length
-from running import CHUNK
+from running import CHUNK, SheetRun
+from version_run import RearrangedChanges
 
 
 def exact_case(kind, sheet):
@@ -20,15 +22,19 @@ def settle_done(run, start, given, cases, answers):
     return len(settled) // 2
 
 
-def compare_cases(run, settling, count, marks, told):
+def compare_cases(run_class, where, count, marks, told):
     """Gives the words of what was never reached, or none. told: what is said of the sheets that were changed."""
-    kinds = run.kinds
+    kinds = run_class.kinds
+    run, settling = run_class(kinds.given, *where), SheetRun(f"{kinds.given}-sheet", *where)
+    rearranged = RearrangedChanges(run_class, f"{kinds.given}-rearranged", where)
     coverage, done = Coverage(marks, kinds.groups), 0
     for start in range(0, count, CHUNK):
         cases = list(kinds.cases(run.seed, min(CHUNK, count - start), start))
         answers, marked = run.answers_and_marks(start, cases)
         coverage.add(cases, marked)
         done += settle_done(settling, 2 * done, kinds.given, cases, answers)
+        rearranged.check(cases, answers)
     print(f"{kinds.given}s: {done} of {count} {told}, the sheet accepted in the same room")
+    rearranged.print(f"sheets with {kinds.given}s")
     coverage.print_all(f"{kinds.given}s", ("sheet_", f"{kinds.given}_"))
     return coverage.failure(count, f"{kinds.given}s")

@@ -67,8 +67,16 @@ class Run:
             for file in files.values():
                 file.unlink(missing_ok=True)
 
+    def by_rival(self, start, cases):
+        """The rival's answers alone."""
+        with self.written(start, cases) as run:
+            return self.rival_answers(run, cases)
+
+    def rival_answers(self, run, cases):
+        return programs.read_answers(run([programs.RIVAL, self.answer_command], "rival"), len(cases))
+
     def agreed(self, run, start, cases):
-        by_rival = programs.read_answers(run([programs.RIVAL, self.answer_command], "rival"), len(cases))
+        by_rival = self.rival_answers(run, cases)
         by_module = programs.read_answers(run(self.driver, "module", start), len(cases))
         self.compare(start, cases, by_rival, by_module)
         return by_rival

@@ -1,9 +1,9 @@
 """The fourth part of a run: both programs settle sheets' consumers under the text of 2015.
 
 Every sheet that is accepted is settled again in the room that the settlement's own result needs, by both entries: the
-settlement accepts it there, and so does this one, with the same result. Every sheet of version 1 is settled again in
-version 2. And of two sheets alike but for higher peaks in the second: under neither text has a consumer a lower volume
-or charge.
+settlement accepts it there, and so does this one, with the same result. Every sheet is settled again in another
+version. And of two sheets alike but for higher peaks in the second: under neither text has a consumer a lower volume or
+charge.
 """
 import text_2015_cases
 from change_run import exact_case
@@ -13,7 +13,7 @@ from records import result_2015_figures
 from refusals import TRIED
 from running import CHUNK, Run2015, SheetRun
 from text_2015_sheets import EDGES
-from version_run import print_settled_again, settle_in_version_2
+from version_run import OtherVersions
 
 MARKS = {
     "refusals": [f"N{number}" for number in TRIED] + ["7oneless"],
@@ -43,16 +43,16 @@ def settle_in_same_room(run, settling, start, cases, answers):
     return len(accepted)
 
 
-def compare_sheets(run, again, in_version_2, settling, count):
-    coverage, accepted, settled_again = Coverage(MARKS, run.kinds.groups), 0, 0
+def compare_sheets(run, again, other_versions, settling, count):
+    coverage, accepted = Coverage(MARKS, run.kinds.groups), 0
     for start in range(0, count, CHUNK):
         cases = list(run.kinds.cases(run.seed, min(CHUNK, count - start), start))
         answers, marks = run.answers_and_marks(start, cases)
         coverage.add(cases, marks)
         accepted += settle_in_same_room(again, settling, accepted, cases, answers)
-        settled_again += settle_in_version_2(in_version_2, settled_again, cases, answers)
+        other_versions.check(cases, answers)
     print(f"text of 2015: {accepted} of {count} sheets accepted, and each by both entries in the settlement's room")
-    print_settled_again(settled_again, "of these sheets")
+    other_versions.print("sheets under the text of 2015")
     return coverage
 
 
@@ -74,7 +74,7 @@ def compare_2015(options, folder):
     """Gives the words of what failed without being a difference, or none."""
     where, count = (options.seed, folder, options.keep), options.pairs_2015
     coverage = compare_sheets(Run2015("sheet-2015", *where), Run2015("sheet-2015-again", *where),
-                              Run2015("sheet-2015-in-version-2", *where), SheetRun("sheet-2015-settled", *where),
+                              OtherVersions(Run2015, "sheet-2015", where), SheetRun("sheet-2015-settled", *where),
                               options.sheets_2015)
     coverage.print_all("sheets under the text of 2015", "refusal_")
     failed = coverage.failure(options.sheets_2015, "sheets")

@@ -77,8 +77,7 @@ def changed_in(found, count):
 def compare_transfers(options, folder):
     """Gives the words of what failed without being a difference, or none."""
     where = options.seed, folder, options.keep
-    failed = compare_cases(ListRun("list", *where), SheetRun("list-sheet", *where), options.lists, MARKS,
-                           "applied; the sum of contract volumes kept")
+    failed = compare_cases(ListRun, where, options.lists, MARKS, "applied; the sum of contract volumes kept")
     if failed:
         return failed
     count = options.list_pairs
