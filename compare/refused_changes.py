@@ -3,7 +3,7 @@ taken, and damaged lists and records."""
 import refused
 from refusals import BUFFER_NUMBER, TRIED
 
-# The sheet's own numbers where there is no result buffer, and the last of them in each version: 18 is for versions 2 and 3.
+# The sheet's own numbers where there is no result buffer, and the last of them by version: 18 is for versions 2 and 3.
 OF_SHEET = tuple(number for number in TRIED if number != BUFFER_NUMBER)
 LAST_OF_SHEET = OF_SHEET[-2:]
 

@@ -80,7 +80,8 @@ GROUPS = {
 SHARES = {
     "checked_months": 1, "slips": 4, "several_rules": 8, "bands_of_k1": 10, "bands_of_consumers": 8, "ties": 10,
     "zero_counts": 3, "months": 8, "ceilings": 4, "powers": 4, "cut": 5, "credits": 5, "largest": 2, "row_days": 6,
-    "columns": 3, "high_columns": 1, "damaged": 6, "buffers": 4, "ordinary": 6, **{f"refusal_{number}": 1 for number in TRIED},
+    "columns": 3, "high_columns": 1, "damaged": 6, "buffers": 4, "ordinary": 6,
+    **{f"refusal_{number}": 1 for number in TRIED},
 }
 
 # ------------------------------------------------------------------ cases

@@ -27,6 +27,12 @@ FOR_DAYS = "(forDays (daysCovered (m .header .days) (m .row j)) (m .row j .volum
 T_FOR_DAYS = f"(sum (λ j. when (owns m p j && support m j) {FOR_DAYS}) (m .header .rows))"
 S_FOR_DAYS = f"(sum (λ j. when (owns m p j) {FOR_DAYS}) (m .header .rows) + m .producer p .deductible)"
 
+# Texts of Sheet: where the three columns begin, and a column that `rearranged` writes; two that follow each other.
+FIRST, SECOND, THIRD = "series 0 4", "series (96 * h .days) 4", "series (192 * h .days) 4"
+WRITTEN = "column s (hoursAt l p) (hours (l .header)) (hourSeries l .{})"
+TWO_WRITTEN = f"{WRITTEN}\n    ++ ({WRITTEN}".format
+LAST_WRITTEN = f"{WRITTEN}\n    ++ {WRITTEN}".format
+
 # The tests of the figures but 18, and 18.
 BEFORE_18, ALONE_18 = "take 5 (figureTests (monthOf s))", "drop 5 (figureTests (monthOf s))"
 
@@ -416,4 +422,42 @@ SLIPS = [
      ("Averaging", COMPLEX_PEAK, "controlAverage hundredth h (net r) - inHundredths (imported r)")),
     ("a complex's average rounded to a hundredth, then to a tenth",
      ("Averaging", COMPLEX_PEAK, "rounded (controlAverage hundredth h (net r)) 10 - imported r")),
+
+    # hours by column
+    ("possible powers in the first column, working ones in the second",
+     ("Sheet", f"working = {FIRST}; possible = {SECOND}", f"working = {SECOND}; possible = {FIRST}")),
+    ("outside uses in the second column, possible powers in the third",
+     ("Sheet", f"possible = {SECOND}; outside = {THIRD}", f"possible = {THIRD}; outside = {SECOND}")),
+    ("outside uses in the first column, working powers in the third",
+     ("Sheet", f"working = {FIRST};", f"working = {THIRD};"), ("Sheet", f"outside = {THIRD}", f"outside = {FIRST}")),
+    ("hour by hour in version 3", ("Sheet", "cond (byColumn l) (columns (l .header)) triples", "triples")),
+    ("the second column begun a byte late", ("Sheet", SECOND, "series (96 * h .days + 1) 4")),
+    ("the second column begun an hour late", ("Sheet", SECOND, "series (96 * h .days + 4) 4")),
+    ("the third column begun a byte late", ("Sheet", THIRD, "series (192 * h .days + 1) 4")),
+    ("the third column begun an hour late", ("Sheet", THIRD, "series (192 * h .days + 4) 4")),
+    ("columns of 31 days in every month", ("Sheet", SECOND, "series 2976 4"), ("Sheet", THIRD, "series 5952 4")),
+    ("version 3 read with rows of 10 bytes",
+     ("Sheet", "statesDays l = ltb 1 (l .version)", "statesDays l = eqb (l .version) 2")),
+    ("a row of version 3 covers the month",
+     ("Sheet", "otherwise = cond (statesDays l)", "otherwise = cond (eqb (l .version) 2)")),
+    ("version 3 turned down", ("Refusals", "ltb 3 (version s)", "ltb 2 (version s)")),
+    ("version 4 accepted", ("Refusals", "ltb 3 (version s)", "ltb 4 (version s)")),
+    ("by column already in version 2", ("Sheet", "byColumn l = ltb 2", "byColumn l = ltb 1")),
+    ("9 not tried of the third column",
+     ("Refusals", "∷ tooHigh (p .possible hour) ∷ tooHigh (p .outsideUse hour)", "∷ tooHigh (p .possible hour)")),
+    ("a complex's record by column too",
+     ("ComplexRecord", "drawnSeries = series 0 recordHour", "drawnSeries = series 0 4"),
+     ("ComplexRecord", "sentSeries = series 4 recordHour", "sentSeries = series 2976 4")),
+    ("rearranged with possible powers first",
+     ("Sheet", TWO_WRITTEN("working", "possible"), TWO_WRITTEN("possible", "working"))),
+    ("rearranged with outside uses before possible powers",
+     ("Sheet", LAST_WRITTEN("possible", "outside"), LAST_WRITTEN("outside", "possible"))),
+    ("rearranged, and version 2 kept", ("Sheet", "field 1 3 ∷ []", "field 1 2 ∷ []")),
+    ("rearranged with an hour too few", ("Sheet", "(powerAt at x i) 4) hours", "(powerAt at x i) 4) (hours - 1)")),
+    ("rearranged from the second hour on", ("Sheet", "(powerAt at x i) 4)", "(powerAt at x (suc i)) 4)")),
+    ("only the version rearranged",
+     ("Sheet", "joined (inColumns (layoutOf s) s) (headerOf s .producers)",
+      "bytesFrom s headerWidth (rowAt (layoutOf s) 0 - headerWidth)")),
+    ("the first producer's columns for each",
+     ("Sheet", "joined (inColumns (layoutOf s) s)", "joined (λ p. inColumns (layoutOf s) s 0)")),
 ]

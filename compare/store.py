@@ -9,8 +9,8 @@ OUTDIR/text_2015_NAME holds sheets under the text of 2015 in the same way.
 OUTDIR/transfers holds sheets with lists of transfers: sheet length (4), list length (4), kind of answer (1: 0 done,
 1 refusal), byte count 0 or refusal number (4), the sheet, the list, and the sheet afterwards, which after a refusal is
 the sheet again. OUTDIR/averages holds sheets with a complex's record in the same way. In each file sheets of version 2
-stand behind those of version 1. FILE gets a line for each file of sheets to be settled, its name and its count of
-cases, in a fixed order.
+stand behind those of version 1, and those of version 3 last. FILE gets a line for each file of sheets to be settled,
+its name and its count of cases, in a fixed order.
 """
 import argparse
 import struct
@@ -28,9 +28,10 @@ import record_cases
 import sheets
 import text_2015_cases
 from bands import EDGES
-from coverage import MARKS_OF_DAYS, MARKS_OF_DAYS_REFUSED, MARKS_OF_HUNDREDTHS, marks_of
+from columns import COLUMNS, HIGH_COLUMNS
+from coverage import MARKS_OF_COLUMNS, MARKS_OF_DAYS, MARKS_OF_DAYS_REFUSED, MARKS_OF_HUNDREDTHS, marks_of
 from programs import Trouble
-from records import DAY_ROWS, FULL_ROWS
+from records import COLUMN_HOURS, DAY_ROWS, FULL_ROWS
 from refusals import FIGURES, tried_before
 from sheets import SheetKinds
 from text_2015_run import MARKS
@@ -38,7 +39,7 @@ from versions import Draws
 
 SEED = 152
 LONGEST_SHEET = 65_000
-MOST_BYTES = 2_400_000
+MOST_BYTES = 2_800_000
 DRAWS = 40
 
 # A sheet with one producer of 28 days, up to a few rows and consumers; a sheet without producers.
@@ -80,12 +81,14 @@ LEFT_OUT = {f"bands_of_k1/{side}_{edge}" for side in ("exact", "exact_next") for
     f"bands_of_k1/penalty_{past}" for past in ("a_thousandth_more", "a_hundredth_more", "a_hundredth_less",
                                                "a_tenth_more", "a_tenth_less")} | {
     "bands_of_k1/no_deductible_least_use", "bands_of_k1/use_below_deductible", "bands_of_k1/no_support_least_penalty",
-    "bands_of_k1/small_deductible", "largest/full_counts", "refusal_5/producers_7", "refusal_5/rows_33",
-    "refusal_10/producer_other", "refusal_10/consumer_other", "zero_counts/rows_without_volume"}
+    "bands_of_k1/small_deductible", "columns/powers_differ_in_29", "columns/powers_differ_in_30", "largest/full_counts",
+    "refusal_5/producers_7", "refusal_5/rows_33", "refusal_10/producer_other", "refusal_10/consumer_other",
+    "zero_counts/rows_without_volume"}
 MONTHS_STORED = 28  # all months once, each with the next form of holidays
-# What only a sheet of version 2 can be.
-ONLY_IN_VERSION_2 = {f"several_rules/{number}_and_18" for number in tried_before(18)} | {
-    "refusal_6/rows_of_10_bytes_in_version_2", "refusal_6/rows_of_12_bytes_in_version_1"}
+# What no sheet of version 1 is stored for.
+ONLY_LATER = {f"several_rules/{number}_and_18" for number in tried_before(18)} | {
+    "refusal_6/rows_of_10_bytes_in_version_2", "refusal_6/rows_of_10_bytes_in_version_3",
+    "refusal_6/rows_of_12_bytes_in_version_1"}
 
 # Sheets with a list, each kind once: lists that are applied, every cause of 13 to 15, the order of the numbers.
 SHORT_LIST = 130    # sheet and list in bytes, if the kind allows it
@@ -171,9 +174,42 @@ VERSION_2 = {
                  "several_rules/18_and_16_eight_bytes"),
 }
 
+# Sheets of version 3 in the same way, behind those of version 2. All marks of request 7 must be reached in the files for
+# the settlement. Columns that are accepted are with the months, those that are not with 9.
+VERSION_3 = {
+    "checked_months": ("checked_months/producer_cut",),
+    "refusal_2": ("refusal_2/one_more",),
+    "refusal_3": ("refusal_3/version_4",),
+    "refusal_4": ("refusal_4/days_27",),
+    "refusal_5": ("refusal_5/consumers_33",),
+    "refusal_6": ("refusal_6/one_byte_less", "refusal_6/rows_of_10_bytes_in_version_3"),
+    "refusal_7": ("refusal_7/shorter_by_one",),
+    "refusal_9": tuple(f"high_columns/{corner}" for corner in HIGH_COLUMNS),
+    "refusal_11": ("refusal_11/row_price",),
+    "refusal_12": ("refusal_12/z_9",),
+    "several_rules": ("several_rules/6_and_12", "several_rules/7_and_9", "several_rules/9_and_18"),
+    "bands_of_k1": ("bands_of_k1/next_50",),
+    "bands_of_consumers": ("bands_of_consumers/half_200",),
+    "ties": ("ties/tie_average", "ties/order_of_k9_and_k10"),
+    "months": (*(kind for kind in (f"columns/{corner}" for corner in COLUMNS) if kind not in LEFT_OUT),
+               "row_days/both_inside_of_28", "refusal_18/only_the_last_row"),
+    "credits": ("credits/drawn",),
+    "largest": ("largest/full_counts_31_days",),
+    "damaged": ("damaged/one_byte_changed", "damaged/any_records"),
+    "buffers": ("buffers/exact",),
+    "text_2015_bands": ("bands/next_500", "not_known/credit_15"),
+    "text_2015_ties": ("volumes/half_of_11",),
+    "text_2015_rooms": ("buffers/exact", "rooms/as_the_settlement_needs"),
+    "text_2015_refusals": ("refusal_6/rows_of_10_bytes_in_version_3", "refusal_9/outside_last_hour",
+                           "refusal_18/last_next", "several_rules/7_and_9"),
+    "transfers": ("applied/given_on", "long/behind_producers", "list_15/emptied_before"),
+    "averages": ("taken/rest_half", "long/behind_producers", "several_rules/18_and_16_eight_bytes"),
+}
+LATER_VERSIONS = {DAY_ROWS: VERSION_2, COLUMN_HOURS: VERSION_3}
+
 
 def corners_stored(group):
-    corners = [corner for corner in sheets.GROUPS[group] if f"{group}/{corner}" not in LEFT_OUT | ONLY_IN_VERSION_2]
+    corners = [corner for corner in sheets.GROUPS[group] if f"{group}/{corner}" not in LEFT_OUT | ONLY_LATER]
     return corners[:MONTHS_STORED] if group == "months" else corners
 
 
@@ -189,8 +225,9 @@ def draw_stored(kinds, kind, length, name, version=FULL_ROWS):
     return shortest
 
 
-def drawn_in_version_2(kinds, file, length):
-    return [draw_stored(kinds, kind, length, f"version_2/{file}/{kind}", DAY_ROWS) for kind in VERSION_2.get(file, ())]
+def drawn_in_later_versions(kinds, file, length):
+    return [draw_stored(kinds, kind, length, f"version_{version}/{file}/{kind}", version)
+            for version, stored in LATER_VERSIONS.items() for kind in stored.get(file, ())]
 
 
 def stored_cases(group):
@@ -198,7 +235,7 @@ def stored_cases(group):
     cases = [draw_stored(sheets.KINDS, f"{group}/{corner}", length, f"{group}/{corner}/{number}")
              for number in range(times) for corner in corners_stored(group)]
     short = [case for case in cases if len(case.sheet) <= LONGEST_SHEET]
-    return short + drawn_in_version_2(sheets.KINDS, group, min(length, ONE_PRODUCER))
+    return short + drawn_in_later_versions(sheets.KINDS, group, min(length, ONE_PRODUCER))
 
 
 def kinds_of_2015(file):
@@ -210,7 +247,7 @@ def kinds_of_2015(file):
 def stored_cases_2015(file):
     kinds = text_2015_cases.KINDS
     cases = [draw_stored(kinds, kind, NO_PRODUCER, f"2015/{kind}") for kind in kinds_of_2015(file)]
-    return cases + drawn_in_version_2(kinds, file, NO_PRODUCER)
+    return cases + drawn_in_later_versions(kinds, file, NO_PRODUCER)
 
 
 # The files of sheets that an entry changes: the kinds of its cases, those that are stored, the length if it can be.
@@ -263,7 +300,7 @@ class Settled(NamedTuple):
 
 
 SETTLEMENT = Settled(sheets.KINDS, "batch", "marks",
-                     {**MARKS_OF_DAYS, **MARKS_OF_DAYS_REFUSED, **MARKS_OF_HUNDREDTHS})
+                     {**MARKS_OF_DAYS, **MARKS_OF_DAYS_REFUSED, **MARKS_OF_HUNDREDTHS, **MARKS_OF_COLUMNS})
 OLD_TEXT = Settled(text_2015_cases.KINDS, "batch2015", "marks2015", MARKS)
 
 
@@ -282,7 +319,7 @@ def answered_changes(file, folder):
     """The stored cases of a file of sheets that are changed, each in bytes. The rival's command has the file's name."""
     kinds, stored, length = CHANGED[file]
     cases = [draw_stored(kinds, kind, length, f"{file}/{kind}") for kind in stored]
-    cases += drawn_in_version_2(kinds, file, length)
+    cases += drawn_in_later_versions(kinds, file, length)
     answers = programs.rival_answers(cases, folder, file)
     check_intended(cases, answers, kinds.intended_refusal)
     return list(map(stored_change_bytes, cases, answers))

@@ -54,8 +54,8 @@ class InVersion2(Again):
         return same_in_version_2(sheet)
 
     def print(self, what):
-        print(f"{what} of version 1 again in version 2, with rows that cover the month: {self.found[FULL_ROWS]}, the same "
-              "answer")
+        print(f"{what} of version 1 again in version 2, with rows that cover the month: {self.found[FULL_ROWS]}, "
+              "the same answer")
 
 
 class Rearranging(SheetRun):
@@ -83,8 +83,8 @@ class Rearranged(Again):
             self.moved += here.sheet[HEADER:] != case.sheet[HEADER:]
 
     def print(self, what, told="the same answer"):
-        print(f"{what} rearranged: {self.found[DAY_ROWS]} of version 2 by column, {self.found[COLUMN_HOURS]} of version "
-              f"3 hour by hour, as the rival does it; in {self.moved} powers stand elsewhere; {told}")
+        print(f"{what} rearranged: {self.found[DAY_ROWS]} of version 2 by column, {self.found[COLUMN_HOURS]} of "
+              f"version 3 hour by hour, as the rival does it; in {self.moved} powers stand elsewhere; {told}")
 
 
 class RearrangedChanges(Rearranged):
@@ -101,7 +101,8 @@ class OtherVersions:
     """Both, of an entry that settles sheets."""
 
     def __init__(self, run_class, name, where):
-        self.all = InVersion2(run_class, f"{name}-in-version-2", where), Rearranged(run_class, f"{name}-rearranged", where)
+        self.all = (InVersion2(run_class, f"{name}-in-version-2", where),
+                    Rearranged(run_class, f"{name}-rearranged", where))
 
     def check(self, cases, answers):
         for each in self.all:

@@ -152,7 +152,7 @@ fn agree_byte_for_byte() {
     let (stored, changes) = (stored(), stored_changes());
     let counts: Vec<_> = stored.iter().map(|(kind, cases)| (kind.clone(), cases.len())).collect();
     assert_eq!(counts, kinds());
-    assert_eq!(changes.iter().map(Vec::len).collect::<Vec<_>>(), [25, 29]);
+    assert_eq!(changes.iter().map(Vec::len).collect::<Vec<_>>(), [28, 32]);
     assert_eq!(fs::read_dir(vectors().join("data")).unwrap().count(), counts.len() + changes.len());
     settle_all(&stored);
     change_all(&changes);
