@@ -1,9 +1,11 @@
 -- A sheet of version 2 rearranged gets past number 6, and states the same month. Assumes nothing.
 use mathlib.Core.Path.{_≡_, refl, sym, ap, subst, _∙_}
-use mathlib.Core.List.{List, [], _∷_, _++_}
+use mathlib.Core.Bool.{cond}
+use mathlib.Core.List.{List, _++_}
 use Prim.Native.Nat.{ℕ, _+_, _-_, _*_, _≤_, _<_}
 use native.Mathlib.Nat.{zero-add, add-zero, add-assoc, mul-le-mul-right, mul-comm}
 use native.Mathlib.Omega.{arith}
+use lib.Dec.{ltb}
 use lib.ListN.{length, length-append}
 use Rattle.rules.specs.declared.Header.{Header}
 use Rattle.rules.specs.declared.Layout.{Layout}
@@ -11,8 +13,8 @@ use Rattle.rules.specs.declared.Series.{Series}
 use Rattle.rules.specs.Month.{hours}
 use Rattle.rules.specs.Limits.{FormLimits}
 use Rattle.rules.specs.Fields.{bigEndian, bytesFrom, joined}
-use Rattle.rules.specs.Sheet.{lengthField, version, headerOf, layoutOf, monthOf, monthUnder, statedWidth, statesDays, byColumn, producerAt, hoursAt, hourSeries, series, powerAt, power, producerUnder, rowWidth, rowAt, rowOf, dayAt, consumerAt, consumerOf, sheetLength, column, inColumns, rearranged}
-use Rattle.rules.specs.Outcome.{hoursStretch}
+use Rattle.rules.specs.Sheet.{lengthField, version, headerOf, layoutOf, monthOf, monthUnder, hoursWidth, statedWidth, statesDays, byColumn, producerAt, hoursAt, hourSeries, series, powerAt, power, producerUnder, rowWidth, rowAt, rowOf, dayAt, consumerAt, consumerOf, sheetLength, column, inColumns, rearranged}
+use Rattle.rules.specs.Outcome.{Stretch, hoursStretch}
 use Rattle.laws.proofs.Refusals.{form-clear}
 use Rattle.laws.proofs.Fields.{Holds, holds-left, holds-right, length-joined, held-record}
 use Rattle.laws.proofs.Sheet.{SameFields, length-from, held-from, row-width-2, by-column, sheet-length, row-inside, consumer-inside, producers-le, front-same, row-same, consumer-same}
@@ -122,9 +124,6 @@ module _ (s : List ℕ) (form : FormLimits s) (second : version s ≡ 2) where
   pub layout-after : layoutOf t ≡ l′
   layout-after = OtherVersion.layout-after s t (lengthField s) 3 (bytesFrom s 5 9 ++ (producers ++ behind)) whole long-fits (omega arith) month-same
 
-  header-after : headerOf t ≡ h
-  header-after = ap (λ (x : Layout). x .header) layout-after
-
   pub form-after : FormLimits t
   form-after =
       OtherVersion.form-after s t (lengthField s) 3 (bytesFrom s 5 9 ++ (producers ++ behind)) whole long-fits (omega arith) month-same form (omega arith) (omega arith)
@@ -204,9 +203,16 @@ module _ (s : List ℕ) (form : FormLimits s) (second : version s ≡ 2) where
       (consumer-same t (consumerAt l c) s (consumerAt l c) (behind-at 15 (consumerAt l c) (unfold consumerAt rowAt in omega arith) (consumer-inside l c b)))
 
   -- Each producer's hours are the same stretch.
-  pub stretch-after : (p : ℕ) → hoursStretch t p ≡ hoursStretch s p
-  unfolding hoursStretch
-  stretch-after p = rw (form-clear t form-after, form-clear s form, layout-after, header-after, second, same-places .3 p)
+  module _ (p : ℕ) where
+    abbrev stretchUnder : Layout → Stretch
+    stretchUnder x = cond (ltb p (x .header .producers)) (record { place = hoursAt x p; bytes = hoursWidth (x .header) }) (record { place = 0; bytes = 0 })
+
+    past-form : (x : List ℕ) → FormLimits x → hoursStretch x p ≡ stretchUnder (layoutOf x)
+    unfolding hoursStretch
+    past-form x f = rw (form-clear x f)
+
+    pub stretch-after : hoursStretch t p ≡ hoursStretch s p
+    stretch-after = past-form t form-after ∙ ap stretchUnder layout-after ∙ rw (same-places .3 p, second) refl ∙ sym (past-form s form)
 
   -- The month that it states is the same month.
   pub alike-after : Alike (monthOf s) (monthOf t)
