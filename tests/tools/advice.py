@@ -144,6 +144,7 @@ def test_new(folder):
     done = sheet("check", "2021-12.toml", folder=folder)
     check(done.returncode == 0 and done.stdout.startswith(b"accepted\n"), "new: is accepted", words_of(done))
     check_new_days(folder / "2021-12.toml")
+    check_new_version(folder / "2021-12.toml")
     for counts in ((0, 0, 0), (6, 32, 32), (1, 32, 0), (0, 0, 32)):
         words = [word for pair in zip(("--producers", "--rows", "--consumers"), counts) for word in pair]
         done = sheet("new", "0001-02", "a b.toml", *words, "--force", folder=folder)
@@ -173,6 +174,18 @@ def check_new_days(path):
     days = [(row.first_day, row.last_day) for row in stated.rows]
     check((without.version, stated.version, days) == (1, 2, [(1, 31)] * 4), "new: the days are stated", str(days))
     check(refusals.all_refusals(stated.to_bytes()) == [], "new: with days it is accepted")
+    path.write_text(text)
+
+
+def check_new_version(path):
+    """So does the version, with what it is if it is left out."""
+    text = path.read_text()
+    check(text.count("\n# version = 3  # of the sheet, its hours as columns; without this line 2 if a row states its "
+                     "days, else 1\n") == 1, "new: the version", text)
+    path.write_text(text.replace("# version", "version"))
+    stated, _ = monthtext.read_sheet(str(path))
+    check(stated.version == 3 and {row.days(stated.month) for row in stated.rows} == {(1, 31)}
+          and refusals.all_refusals(stated.to_bytes()) == [], "new: the version is stated")
     path.write_text(text)
 
 

@@ -6,10 +6,9 @@ import os
 import subprocess
 import sys
 
-import programs
 import records
 import results
-from checks import EXAMPLES, PROGRAM, REPORT, check, files_in, report, turned_down, words_of
+from checks import EXAMPLES, PROGRAM, REPORT, by_rival, check, files_in, report, turned_down, words_of
 from texts import GOOD, changed
 
 LISTINGS = {path.stem: path.with_suffix(".listing").read_text() for path in EXAMPLES.glob("*.sheet")}
@@ -147,7 +146,7 @@ def test_odd_names(folder):
 def test_result_bytes(folder):
     """--result writes the rival's result, byte for byte; of a refused month nothing."""
     for name in SETTLED:
-        _, printed = programs.run_program([programs.RIVAL, "settle", EXAMPLES / f"{name}.sheet"])
+        printed = by_rival("settle", EXAMPLES / f"{name}.sheet").decode()
         done = report("--result", f"{name}.bin", as_settled(name), folder=folder)
         check(done.stdout.decode() == LISTINGS[name] and not done.stderr, f"--result: {name}: the listing",
               words_of(done))

@@ -55,7 +55,7 @@ BAD = [
     (with_days(10, 28, SECOND_ROW).replace("28\n", "28\nname = 1\n"), 'row 0: the key "name" is unknown; known are '
      "producer, consumer, volume, price, first_day, last_day"),
     (with_days(10, 28, ("holidays = []", "holidays = []\nversion = 1")), "version: is 1, where every row covers the "
-     "month, but row 0 states its days; that is version 2, also if the key is left out"),
+     "month, but row 0 states its days; that is version 2, also if the key is left out, or 3"),
     (with_days(-1, 28), "row 0: first_day: -1 is negative"),
     (with_days(10, 256), "row 0: last_day: 256 does not fit its field, which holds at most 255"),
     (with_days(10, "28.5"), 'row 0: last_day: "28.5" has decimals, and a whole number is asked for'),
@@ -87,7 +87,7 @@ def test_texts(folder):
         (folder / "in.sheet").write_bytes(content)
         sheet("unpack", "in.sheet", "out.toml", "--force", folder=folder)
         unpacked = (folder / "out.toml").read_text()
-        check(unpacked.count("version = 2") == (version == 2 and not days), f"unpack: {name}: the version", unpacked)
+        check(unpacked.count(f"\nversion = {version}  # rows ") == 1, f"unpack: {name}: the version", unpacked)
         done = sheet("pack", "out.toml", "-", folder=folder)
         check(done.stdout == content, f"pack after unpack: {name}", words_of(done))
     for text, message in BAD:

@@ -1,5 +1,5 @@
-"""Sheets of the comparison's drawing, and the same with drawn days in version 2: explain against the rival, and the way
-to text and back."""
+"""Sheets of the comparison's drawing, and the same with drawn days in versions 2 and 3: explain against the rival, and
+the way to text and back."""
 import os
 import random
 import tempfile
@@ -12,11 +12,11 @@ import programs
 import records
 import refusals
 import sheets
-from checks import SHEET, check, files_in, run, sheet, words_of
+from checks import SHEET, asked, check, files_in, run, sheet, words_of
 
 SEED = 20211022
 DRAWN = 1000
-WITH_DAYS = 200     # of the drawn sheets are taken with days too
+WITH_DAYS = 200     # of the drawn sheets are taken with days too, half of them with hours as columns
 ROUND_TRIPS = 400   # of the drawn sheets, beside those with days; most get past refusal 6
 BY_COMMAND = 6      # of these, of each version, go through the commands
 MOST_REPAIRS = 12   # of one sheet
@@ -27,9 +27,15 @@ def draw():
     drawn = [case._replace(sheet=case.sheet[:refusals.HANDED_OVER], buffer=sheets.LONGEST_BUFFER)
              for case in sheets.KINDS.cases(SEED, DRAWN)]
     full, rng = [case for case in drawn if covers_month(case.sheet)], random.Random(SEED)
-    cases = [with_days(case, rng) for case in full[:WITH_DAYS]] + drawn
+    cases = [with_days(case, rng, (records.DAY_ROWS, records.COLUMN_HOURS)[number % 2])
+             for number, case in enumerate(full[:WITH_DAYS])] + drawn
+    return cases, by_rival(cases)
+
+
+def by_rival(cases):
+    """The rival's answers."""
     with tempfile.TemporaryDirectory() as folder:
-        return cases, programs.rival_answers(cases, folder)
+        return programs.rival_answers([asked(case) for case in cases], folder)
 
 
 def covers_month(content):
@@ -37,10 +43,10 @@ def covers_month(content):
     return refusals.not_as_text(content) is None and not records.states_days(content[4])
 
 
-def with_days(case, rng):
-    """A sheet of version 1 in version 2."""
+def with_days(case, rng, version):
+    """A sheet of version 1 in another."""
     drawn = records.Sheet.from_bytes(case.sheet)
-    drawn.version = records.DAY_ROWS
+    drawn.version = version
     for row in drawn.rows:
         row.first_day, row.last_day = draw_days(rng, drawn.month.days)
     return case._replace(kind=f"{case.kind}, with days", sheet=drawn.to_bytes())
@@ -88,9 +94,8 @@ def test_places(cases, answers):
                        records.ROW_DAY: content[5]}.get(entry.field.unit, 0)
             content[entry.place:entry.place + entry.field.width] = allowed.to_bytes(entry.field.width, "big")
     check(len(repaired) >= 50, f"explain: only {len(repaired)} sheets were repaired")
-    with tempfile.TemporaryDirectory() as folder:
-        for case, answer in zip(repaired, programs.rival_answers(repaired, folder)):
-            check(isinstance(answer, bytes), f"explain: {case.kind}: repaired, but the rival refuses it by {answer}")
+    for case, answer in zip(repaired, by_rival(repaired)):
+        check(isinstance(answer, bytes), f"explain: {case.kind}: repaired, but the rival refuses it by {answer}")
 
 
 def test_round_trips(cases, answers):
@@ -131,7 +136,8 @@ def test_commands(name, content, folder, texts):
 def largest_fields():
     """Every figure the largest that its field holds, in as many records as get past refusal 6; one hour is another."""
     for month, series, hour, version in ((records.Month(31, 7, 2 ** 31 - 1), 0, 743, records.FULL_ROWS),
-                                         (records.Month(28, 1, 0), 2, 0, records.DAY_ROWS)):
+                                         (records.Month(28, 1, 0), 2, 0, records.DAY_ROWS),
+                                         (records.Month(31, 7, 2 ** 31 - 1), 1, 700, records.COLUMN_HOURS)):
         powers = [array("I", [2 ** 32 - 1]) * month.hours for _ in range(3)]
         powers[series][hour] = 0
         producer = records.Producer(*[2 ** 32 - 1] * 3, [65535] * 3, [2 ** 32 - 1] * 6, *powers)

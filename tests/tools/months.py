@@ -8,7 +8,7 @@ import forms
 import monthtext
 import programs
 import records
-from checks import CHANGES, EXAMPLES, PROGRAM, ROOT, check, files_in, report, run, sheet, words_of
+from checks import CHANGES, EXAMPLES, PROGRAM, ROOT, by_rival, check, files_in, report, run, sheet, words_of
 
 
 def test_examples(folder):
@@ -21,8 +21,8 @@ def test_examples(folder):
             done = sheet("pack", EXAMPLES / f"{name}.toml", folder / f"{name}.sheet")
             check(done.returncode == 0 and (folder / f"{name}.sheet").read_bytes() == source.read_bytes(),
                   f"examples: {name}.toml packs to {name}.sheet", words_of(done))
-        done = run(programs.RIVAL, "list", source)
-        check(done.stdout == listing, f"examples: {name}.listing by the rival", words_of(done))
+        printed = by_rival("list", source)
+        check(printed == listing, f"examples: {name}.listing by the rival", printed.decode()[:1000])
         done = sheet("show", source)
         check(done.returncode == 0 and done.stdout.startswith(b"length ") and not done.stderr,
               f"show: {name}", words_of(done))
@@ -80,7 +80,7 @@ def test_proved(folder):
 
 def test_result(name, source, listing, folder):
     """The rival's result, printed by `result`, is the listing."""
-    kind, count, digits = run(programs.RIVAL, "settle", source).stdout.split()
+    kind, count, digits = by_rival("settle", source).split()
     content = bytes.fromhex(digits.decode())
     check((kind, len(content)) == (b"bytes", int(count)), f"result: {name}: the rival's result")
     (folder / f"{name}.bin").write_bytes(content)
@@ -95,7 +95,7 @@ def test_show_and_explain():
         "month.sheet": ["holidays            day 1, day 16, day 17", " 26         3             0     5.0  568000.00",
                         "       0  305853.6  307267.2  16437.0            120            28.09  3.09     12.4  1.3",
                         "row  producer      consumer  volume      price"],
-        "inside-month.sheet": ["version             2",
+        "inside-month.sheet": ["version             2 (rows state their days, hours as triples)",
                                "row  producer      consumer  volume      price  first day  last day",
                                "  0         0  single buyer    80.0  600000.00         10        30",
                                "  4         0             1    10.0  580000.00          1        30"],
@@ -135,11 +135,15 @@ def test_readmes():
     for key in (*keys, *monthtext.TOP_KEYS[:6], "name", "hours", monthtext.csv_head(records.HOUR_FIELDS),
                 *(key for columns in forms.COLUMNS.values() for key in columns)):
         check(f"`{key}`" in readme, f"tools/README.md names {key}")
+    commands = sheet("--help").stdout.decode()
+    for command in ("new", "check", "pack", "unpack", "rearrange", "show", "calendar", "explain", "result"):
+        check(f"\n    tools/sheet {command} " in readme and f"\n    {command}" in commands,
+              f"{command} stands in tools/README.md and tools/sheet --help")
     usage = run(ROOT / "settle", "--help").stdout.decode()
     for option in ("--text-2015", "--table", "--csv", "--json", "--explain", "--transfers", "--complex", "--sheet",
                    "--result", "--force", "--strict", "--version"):
         check(option in usage and f"`{option}" in readme, f"{option} stands in tools/README.md and ./settle --help")
-    for words in (readme, usage, sheet("--help").stdout.decode()):
+    for words in (readme, usage, commands):
         words = " ".join(words.split())
         check("docs/RULES.md" in words and '"When a sheet is turned down", of a list under Requests, 1, of a record '
               "under Requests, 3" in words, "the rules' document is named, with its tables of numbers")

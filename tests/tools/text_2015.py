@@ -6,12 +6,13 @@ import io
 import json
 import tempfile
 
+import checks
 import programs
 import records
 import results
 from answers import STAND_IN, as_settled, parted
-from checks import (CHANGES, EXAMPLES, LISTS, PROGRAM_2015, RECORDS, ROOT, check, files_in, report, report_2015, run,
-                    sheet, turned_down, words_of)
+from checks import (CHANGES, EXAMPLES, LISTS, PROGRAM_2015, RECORDS, ROOT, asked, check, files_in, report, report_2015,
+                    run, sheet, turned_down, words_of)
 from texts import BACK, GOOD, changed
 
 OLD_ACT = EXAMPLES / "old-act.sheet"
@@ -32,12 +33,12 @@ BY_HAND = [("100.0", "0.0", "1.0", "100.0"), ("100.0", "105.0", "1.0", "100.0"),
 
 def by_rival(path):
     """The rival's listing of a sheet."""
-    return run(programs.RIVAL, "list2015", path).stdout
+    return checks.by_rival("list2015", path)
 
 
 def result_by_rival(path):
     """The rival's result of an accepted sheet."""
-    return bytes.fromhex(run(programs.RIVAL, "settle2015", path).stdout.decode().split()[2])
+    return bytes.fromhex(checks.by_rival("settle2015", path).decode().split()[2])
 
 
 def form(name, *words, **more):
@@ -340,7 +341,7 @@ def test_impossible(cases, _answers):
     """Every result of the rival is possible under its sheet. In that of the full month no byte can be changed without
     being noticed, and in that of the old act it is said what is wrong."""
     with tempfile.TemporaryDirectory() as folder:
-        answers = programs.rival_answers(cases, folder, "batch2015")
+        answers = programs.rival_answers([asked(case) for case in cases], folder, "batch2015")
     settled = [(case.sheet, answer) for case, answer in zip(cases, answers) if isinstance(answer, bytes)]
     check(len(settled) > 300, f"the drawn sheets: only {len(settled)} are settled")
     for content, answer in settled:

@@ -7,16 +7,18 @@ use native.Mathlib.Omega.{arith}
 use Rattle.rules.specs.declared.Header.{Header}
 use Rattle.rules.specs.declared.Layout.{Layout}
 use Rattle.rules.specs.declared.Stated.{Stated}
+use Rattle.rules.specs.declared.Series.{Series}
+use Rattle.rules.specs.declared.HourSeries.{HourSeries}
 use Rattle.rules.specs.Month.{Producer, Month, hours}
 use Rattle.rules.specs.Limits.{ProducerLimits, MonthLimits}
 use Rattle.rules.specs.Cut.{afterCut}
 use Rattle.rules.specs.Rows.{actual, payment}
 use Rattle.rules.specs.Consumers.{credit, countedPeak, percent, band, volume, charge}
 use Rattle.rules.specs.Totals.{totalPaid, totalCharged}
-use Rattle.rules.specs.Fields.{bigEndian, laid, joined}
-use Rattle.rules.specs.Sheet.{producerWidth, producerAt, hoursAt, power, producerUnder}
+use Rattle.rules.specs.Fields.{laid, joined}
+use Rattle.rules.specs.Sheet.{statedWidth, producerWidth, producerAt, hoursAt, hourSeries, power, producerUnder}
 use Rattle.rules.specs.Result.{RowFigures, ConsumerFigures, TotalFigures, rowFigures, consumerFigures, totalFigures, rowFields, consumerFields, totalFields, headFields, rowRecord, consumerRecord, resultOf}
-use Rattle.laws.proofs.Sheet.{SameFields, stated-same}
+use Rattle.laws.proofs.Sheet.{Spans, series-span, span-ends, SameFields, stated-same}
 use Rattle.theorems.specs.Demand3.{WorseProducer, Worse}
 use Rattle.theorems.specs.Alike.{SameProducer, Alike}
 use Rattle.theorems.proofs.Rows as Rows
@@ -82,17 +84,18 @@ same-limits a w =
       outsideUse = λ i l. rw (a .outsideUse i l) (w .outsideUse i l);
     }
 
--- Producers whose bytes are the same, each under its layout.
-module _ (l l′ : Layout) (s t : List ℕ) (p : ℕ) (field : SameFields (producerWidth l) t (producerAt l′ p) s (producerAt l p)) where
-  hour-same : (k i : ℕ) → k ≤ 8 → i < hours (l .header) → bigEndian 4 t (hoursAt l′ p + (k + 12 * i)) ≡ bigEndian 4 s (hoursAt l p + (k + 12 * i))
-  unfolding hoursAt
-  hour-same k i a b =
-      rw (add-assoc (producerAt l′ p) 42 (k + 12 * i), add-assoc (producerAt l p) 42 (k + 12 * i)) (field 4 (42 + (k + 12 * i)) (omega arith))
+-- Producers whose stated figures are the same bytes, each under its layout, and whose series have the same powers.
+module _ (l l′ : Layout) (s t : List ℕ) (p : ℕ) where
+  abbrev pub SamePowers : Series → Series → Type 0
+  SamePowers x x′ = (i : ℕ) → i < hours (l .header) → power t (hoursAt l′ p) x′ i ≡ power s (hoursAt l p) x i
 
-  pub producer-same : SameProducer (hours (l .header)) (producerUnder l s p) (producerUnder l′ t p)
-  unfolding power
-  producer-same =
-      let e = stated-same t (producerAt l′ p) s (producerAt l p) (λ w k b. field w k (omega arith)) in
+  pub producer-alike : SameFields statedWidth t (producerAt l′ p) s (producerAt l p)
+      → SamePowers (hourSeries l .working) (hourSeries l′ .working)
+      → SamePowers (hourSeries l .possible) (hourSeries l′ .possible)
+      → SamePowers (hourSeries l .outside) (hourSeries l′ .outside)
+      → SameProducer (hours (l .header)) (producerUnder l s p) (producerUnder l′ t p)
+  producer-alike field working possible outside =
+      let e = stated-same t (producerAt l′ p) s (producerAt l p) field in
       record {
         attested = ap (λ (x : Stated). x .attested) e;
         deductible = ap (λ (x : Stated). x .deductible) e;
@@ -106,10 +109,28 @@ module _ (l l′ : Layout) (s t : List ℕ) (p : ℕ) (field : SameFields (produ
         k8 = ap (λ (x : Stated). x .k8) e;
         k9 = ap (λ (x : Stated). x .k9) e;
         k10 = ap (λ (x : Stated). x .k10) e;
-        working = λ i q. hour-same 0 i (omega arith) q;
-        possible = λ i q. hour-same 4 i (omega arith) q;
-        outsideUse = λ i q. hour-same 8 i (omega arith) q;
+        working = working;
+        possible = possible;
+        outsideUse = outside;
       }
+
+  -- Where all their bytes are the same, and stand for the same hours.
+  module _ (field : SameFields (producerWidth l) t (producerAt l′ p) s (producerAt l p)) (same : hourSeries l′ ≡ hourSeries l) where
+    powers-same : (of : HourSeries → Series) → Spans (l .header) (of (hourSeries l)) → SamePowers (of (hourSeries l)) (of (hourSeries l′))
+    unfolding hoursAt power
+    powers-same of spans i b =
+        let x = of (hourSeries l) in
+        let k = x .start + x .step * i in
+        rw (ap of same, add-assoc (producerAt l′ p) 42 k, add-assoc (producerAt l p) 42 k)
+        (field 4 (42 + k) (omega (arith, span-ends (l .header) x spans i b)))
+
+    pub producer-same : SameProducer (hours (l .header)) (producerUnder l s p) (producerUnder l′ t p)
+    producer-same =
+        let spans = series-span l in
+        producer-alike (λ w k b. field w k (omega arith))
+        (powers-same (λ x. x .working) (spans .0))
+        (powers-same (λ x. x .possible) (spans .1))
+        (powers-same (λ x. x .outside) (spans .2))
 
 -- Records one after the other, each the same.
 pub joined-same : (f g : ℕ → List ℕ) (n : ℕ) → ((i : ℕ) → i < n → f i ≡ g i) → joined f n ≡ joined g n

@@ -13,6 +13,8 @@ pub mod Transfers
 pub mod Averaging
 pub mod Text2015
 pub mod SameFigures
+pub mod OtherVersion
 pub mod Version2
+pub mod Version3
 pub mod WholeTenths
 pub mod Requests

@@ -52,7 +52,7 @@ module _ (s t : List ℕ) (as-long : length t ≡ length s) (front-kept : (i : �
   same-producer : (p : ℕ) → p < headerOf s .producers → SameProducer (hours (headerOf s)) (producerUnder (layoutOf s) s p) (producerUnder (layoutOf s) t p)
   same-producer p b =
       let ends = producer-ends (layoutOf s) p b in
-      producer-same (layoutOf s) (layoutOf s) s t p (λ w k q. front w (producerAt (layoutOf s) p + k) (unfold hoursAt in omega (arith, ends)))
+      producer-same (layoutOf s) (layoutOf s) s t p (λ w k q. front w (producerAt (layoutOf s) p + k) (unfold hoursAt in omega (arith, ends))) refl
 
   same-row : (j : ℕ) → j < headerOf s .rows → rowOf (layoutOf s) t (rowAt (layoutOf s) j) ≡ rowOf (layoutOf s) s (rowAt (layoutOf s) j)
   same-row j b =

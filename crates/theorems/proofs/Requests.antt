@@ -1,5 +1,5 @@
 -- The theorems that the requests state, for the auditor: each by name, with its statement. The proofs are in the other files. Assumes nothing.
-use mathlib.Core.Path.{_≡_}
+use mathlib.Core.Path.{_≡_, ap}
 use mathlib.Core.Bool.{false}
 use mathlib.Core.Logic.{_⊎_, inl, inr}
 use mathlib.Core.List.{List, _++_}
@@ -10,6 +10,7 @@ use lib.ListN.{length, drop}
 use Rattle.rules.specs.declared.Band.{Band}
 use Rattle.rules.specs.declared.Consumer.{Consumer}
 use Rattle.rules.specs.declared.Header.{Header}
+use Rattle.rules.specs.declared.Layout.{Layout}
 use Rattle.rules.specs.Bands.{bands, factorOf}
 use Rattle.rules.specs.Month.{Producer}
 use Rattle.rules.specs.Coefficients.{k1}
@@ -17,10 +18,10 @@ use Rattle.rules.specs.Consumers.{volumeOf}
 use Rattle.rules.specs.ControlHours.{weekdayOn, controlWeekday, controlDay}
 use Rattle.rules.specs.ControlTable.{controlWeekdays, lineOf, says, tableDay}
 use Rattle.rules.specs.Fields.{bigEndian, over}
-use Rattle.rules.specs.Sheet.{version, headerOf, monthOf, inVersion2}
+use Rattle.rules.specs.Sheet.{version, headerOf, monthOf, inVersion2, rearranged}
 use Rattle.rules.specs.Result.{resultOf}
 use Rattle.rules.specs.Refusals.{frontTests, headerTests, formTests, figureTests, sheetTests, firstOf}
-use Rattle.rules.specs.Outcome.{refused, written, Accepted, bufferAfter}
+use Rattle.rules.specs.Outcome.{refused, written, Accepted, bufferAfter, hoursStretch}
 use Rattle.rules.specs.Transfers.{contracts, listTests, turnTests, transferTests, transferRefusal, transferOutcome, volumesAfter, transferred, withVolumes}
 use Rattle.rules.specs.ComplexRecord.{complex}
 use Rattle.rules.specs.Averaging.{complexPeak, recordTests, averageTests, averageRefusal, averageOutcome, averaged, withPeakOf}
@@ -41,6 +42,7 @@ use Rattle.theorems.specs.Request4.{rising, HigherPeaks, NoLower2015}
 use Rattle.theorems.specs.Alike.{Alike}
 use Rattle.theorems.specs.Request5.{FullRows, SameAnswers}
 use Rattle.theorems.specs.Request6.{k1ByTenths, WholeTenths}
+use Rattle.theorems.specs.Request7.{EqualResults}
 use Rattle.theorems.proofs.Transfers as Transfers
 use Rattle.theorems.proofs.Averaging as Averaging
 use Rattle.theorems.proofs.Bands as Bands
@@ -48,6 +50,7 @@ use Rattle.theorems.proofs.Consumers as Consumers
 use Rattle.theorems.proofs.Text2015 as Text2015
 use Rattle.theorems.proofs.SameFigures as SameFigures
 use Rattle.theorems.proofs.Version2 as Version2
+use Rattle.theorems.proofs.Version3 as Version3
 use Rattle.theorems.proofs.WholeTenths as WholeTenths
 
 -- Request 1: transfers of contract volume -------------------------------------------------------------------------------------------
@@ -266,3 +269,32 @@ version-2-there s form first =
 -- rounded to a tenth.
 pub whole-tenths-same : (h : Header) (p : Producer) (tenths : ℕ) → WholeTenths h p tenths → (T : ℕ) → k1 h p T ≡ k1ByTenths h p T
 whole-tenths-same = WholeTenths.same
+
+-- Request 7: hours by column, sheet version 3 ------------------------------------------------------------------------------------------
+
+-- The rearrangement of a version 2 sheet that gets past number 6.
+module _ (s : List ℕ) (form : firstOf (formTests s) ≡ 0) (second : version s ≡ 2) where
+  -- It is of version 3 and as long as the sheet, and gets past number 6.
+  pub rearranged-form : (firstOf (formTests (rearranged s)) ≡ 0) × (version (rearranged s) ≡ 3) × (length (rearranged s) ≡ length s)
+  rearranged-form =
+      let limits = form-limits s form in (
+        form-clear (rearranged s) (Version3.form-after s limits second),
+        ap (λ (l : Layout). l .version) (Version3.layout-after s limits second),
+        Version3.as-long s limits second,
+      )
+
+  -- It states the same month.
+  pub rearranged-month : Alike (monthOf s) (monthOf (rearranged s))
+  rearranged-month = Version3.alike-after s (form-limits s form) second
+
+  -- With result buffers of one length, the two give equal results or the same refusal.
+  pub rearranged-same : (out out′ : List ℕ) → length out′ ≡ length out → EqualResults s (rearranged s) out out′
+  rearranged-same = SameFigures.equal-results s (rearranged s) form (rearranged-form .0) rearranged-month
+
+  -- All entries answer them alike.
+  pub rearranged-answers : SameAnswers s (rearranged s)
+  rearranged-answers = SameFigures.same-answers s (rearranged s) form (rearranged-form .0) rearranged-month
+
+  -- The hours of each producer are handed back as the same stretch.
+  pub rearranged-stretch : (p : ℕ) → hoursStretch (rearranged s) p ≡ hoursStretch s p
+  rearranged-stretch = Version3.stretch-after s (form-limits s form) second

@@ -5,7 +5,8 @@ use mathlib.Core.List.{List, _++_, append-assoc}
 use Prim.Native.Nat.{ℕ, _<_}
 use native.Mathlib.Omega.{arith}
 use borrow.Author.Tests.{le-ltb}
-use lib.ListN.{length}
+use lib.ListN.{length, take, drop}
+use lib.Seq.{take-at}
 use Rattle.rules.specs.declared.Header.{Header}
 use Rattle.rules.specs.declared.Row.{Row}
 use Rattle.rules.specs.declared.Consumer.{Consumer}
@@ -16,19 +17,22 @@ use Rattle.rules.specs.Sheet.{version, headerOf, layoutOf, monthOf, statesDays,
 use Rattle.rules.specs.Result.{resultLength, resultOf}
 use Rattle.rules.specs.Limits.{MonthLimits}
 use Rattle.rules.specs.Refusals.{badShare, highHour, highProducer, highRow, highConsumer, badReference, tooDear, badFactor, badDays, Test, formTests, roomTests, figureTests, sheetTests, testsFor, tests, firstOf, refusal}
-use Rattle.rules.specs.Outcome.{outcome, bufferAfter}
+use Rattle.rules.specs.Outcome.{Accepted, outcome, bufferAfter}
 use Rattle.rules.specs.Text2015.{factor2015, volume2015, charge2015}
 use Rattle.rules.specs.Result2015.{length2015, record2015, result2015}
 use Rattle.rules.specs.Outcome2015.{tests2015, refusal2015, outcome2015, bufferAfter2015}
 use Rattle.rules.specs.Transfers.{transferTests, transferRefusal, transferOutcome}
 use Rattle.rules.specs.Averaging.{recordTests, averageTests, averageRefusal, averageOutcome}
 use Rattle.laws.proofs.Range.{any-same}
-use Rattle.laws.proofs.Refusals.{first-append, first-next, form-numbered, sheet-numbered, limits-for}
-use Rattle.laws.proofs.Answers.{same-after}
+use Rattle.laws.proofs.Refusals.{first-append, first-next, form-numbered, sheet-numbered, limits}
+use Rattle.laws.proofs.Answers.{same-after, is-changed}
+use Rattle.laws.proofs.Answers as Answers
 use Rattle.theorems.specs.Alike.{SameProducer, Alike}
 use Rattle.theorems.specs.Request5.{FullRows, SameAnswers}
+use Rattle.theorems.specs.Request7.{EqualResults}
 use Rattle.theorems.proofs.Alike.{joined-same, alike-result}
 use Rattle.theorems.proofs.Transfers.{list-same}
+use Rattle.theorems.proofs.ReadBack.{result-length}
 
 -- The same producer fails or passes 8 and 9.
 same-share : (h : Header) {p p′ : Producer} → SameProducer (hours h) p p′ → badShare h p′ ≡ badShare h p
@@ -121,6 +125,9 @@ module _ (s s′ : List ℕ) (form : firstOf (formTests s) ≡ 0) (form′ : fir
   then-same ts′ ts e =
       first-append (sheetTests s′) ts′ (sheet-numbered s′) ∙ rw (own-same, e) (sym (first-append (sheetTests s) ts (sheet-numbered s)))
 
+  accepted : (room : ℕ) → refusal s room ≡ 0 → MonthLimits (monthOf s)
+  accepted room none = limits s room none .month
+
   pub same-answers : SameAnswers s s′
   same-answers =
       record {
@@ -142,9 +149,34 @@ module _ (s s′ : List ℕ) (form : firstOf (formTests s) ≡ 0) (form′ : fir
             rw (then-same _ _ (list-same s s′ list (a .header) (λ c l. ap (λ (k : Consumer). k .contract) (a .consumer c l))));
         average = λ r. unfold averageOutcome averageRefusal averageTests in rw (then-same _ _ (ap (λ (h : Header). firstOf (recordTests h r)) (a .header)));
       }
-    where
-      accepted : (room : ℕ) → refusal s room ≡ 0 → MonthLimits (monthOf s)
-      accepted room none = limits-for (resultLength (headerOf s)) s room (unfold refusal tests in none) .month
+
+  -- With result buffers of one length, whatever stands in them.
+  module _ (out out′ : List ℕ) (long : length out′ ≡ length out) where
+    refusal-with : refusal s′ (length out′) ≡ refusal s (length out)
+    refusal-with = ap (refusal s′) long ∙ refusal-same (length out)
+
+    -- An accepted sheet's result stands in front of its buffer.
+    in-front : (x buffer : List ℕ) → Accepted x (length buffer) → take (resultLength (headerOf x)) (bufferAfter x buffer) ≡ resultOf (monthOf x)
+    unfolding bufferAfter over
+    in-front x buffer ok =
+        ap (take (resultLength (headerOf x))) (is-changed (refusal x (length buffer)) (unfold over in over (resultOf (monthOf x)) buffer) buffer ok)
+        ∙ take-at (resultOf (monthOf x)) (drop (length (resultOf (monthOf x))) buffer) (resultLength (headerOf x)) (result-length (monthOf x))
+
+    pub equal-results : EqualResults s s′ out out′
+    equal-results =
+        record {
+          answer = unfold outcome in rw (refusal-with, a .header);
+          result =
+              λ ok.
+              ap (λ (h : Header). take (resultLength h) (bufferAfter s′ out′)) (sym (a .header))
+              ∙ in-front s′ out′ (refusal-with ∙ ok)
+              ∙ alike-result (monthOf s) (monthOf s′) a (accepted (length out) ok)
+              ∙ sym (in-front s out ok);
+          kept =
+              λ no.
+              unfold bufferAfter in
+              (Answers.kept (refusal s (length out)) (over (resultOf (monthOf s)) out) out no, Answers.kept (refusal s′ (length out′)) (over (resultOf (monthOf s′)) out′) out′ (λ none. no (sym refusal-with ∙ none)));
+        }
 
 -- The rows of a version 1 sheet cover the month, so it states the figures of the version 2 sheet.
 module _ (s s′ : List ℕ) (full : FullRows s s′) where

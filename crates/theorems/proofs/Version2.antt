@@ -4,17 +4,19 @@ use mathlib.Core.List.{List, [], _∷_, _++_}
 use Prim.Native.Nat.{ℕ, _+_, _-_, _*_, _≤_, _<_}
 use native.Mathlib.Nat.{zero-add, add-assoc, mul-le-mul-right}
 use native.Mathlib.Omega.{arith}
+use borrow.Author.Tests.{le-ltb}
 use lib.ListN.{length, getD, length-append}
 use Rattle.rules.specs.declared.Layout.{Layout}
 use Rattle.rules.specs.Month.{hours}
-use Rattle.rules.specs.Limits.{HeaderLimits, FormLimits}
-use Rattle.rules.specs.Fields.{bigEndian, bytesFrom, field, laid, widthOf, joined}
-use Rattle.rules.specs.Sheet.{lengthField, version, headerOf, layoutOf, monthOf, statesDays, producerAt, producerUnder, rowAt, rowOf, dayAt, consumerAt, consumerOf, sheetLength, inVersion2}
-use Rattle.laws.proofs.Fields.{Holds, holds-left, holds-right, length-laid, Fit, read-laid, length-joined, held-record}
-use Rattle.laws.proofs.Sheet.{SameFields, length-from, held-from, row-width-1, row-width-2, sheet-length, producers-le, header-same, front-same, consumer-same}
+use Rattle.rules.specs.Limits.{FormLimits}
+use Rattle.rules.specs.Fields.{bigEndian, bytesFrom, joined}
+use Rattle.rules.specs.Sheet.{lengthField, version, headerOf, layoutOf, monthOf, statesDays, byColumn, producerAt, producerUnder, rowAt, rowOf, dayAt, consumerAt, consumerOf, sheetLength, inVersion2}
+use Rattle.laws.proofs.Fields.{Holds, holds-left, holds-right, length-joined, held-record}
+use Rattle.laws.proofs.Sheet.{SameFields, length-from, held-from, row-width-1, row-width-2, by-hour, sheet-length, producers-le, front-same, consumer-same}
 use Rattle.theorems.specs.Alike.{SameProducer}
 use Rattle.theorems.specs.Request5.{FullRow, FullRows}
 use Rattle.theorems.proofs.Alike.{producer-same}
+use Rattle.theorems.proofs.OtherVersion as OtherVersion
 
 module _ (s : List ℕ) (form : FormLimits s) (first : version s ≡ 1) where
   abbrev l : Layout
@@ -27,8 +29,8 @@ module _ (s : List ℕ) (form : FormLimits s) (first : version s ≡ 1) where
   l′ = record { version = 2; header = headerOf s }
 
   -- Its parts, and their lengths.
-  abbrev head : List ℕ
-  head = laid (field 4 (lengthField s + 2 * headerOf s .rows) ∷ field 1 2 ∷ [])
+  abbrev long : ℕ
+  long = lengthField s + 2 * headerOf s .rows
 
   abbrev producers : List ℕ
   producers = bytesFrom s 5 (rowAt l 0 - 5)
@@ -42,10 +44,6 @@ module _ (s : List ℕ) (form : FormLimits s) (first : version s ≡ 1) where
   abbrev consumers : List ℕ
   consumers = bytesFrom s (consumerAt l 0) (15 * headerOf s .consumers)
 
-  length-head : length head ≡ 5
-  unfolding widthOf
-  length-head = length-laid (field 4 (lengthField s + 2 * headerOf s .rows) ∷ field 1 2 ∷ [])
-
   length-row : (j : ℕ) → length (row j) ≡ 12
   length-row j = simp (length-append, length-from s (rowAt l j) 10)
 
@@ -57,12 +55,12 @@ module _ (s : List ℕ) (form : FormLimits s) (first : version s ≡ 1) where
   rows-from = omega arith
 
   -- Where they stand.
-  whole : Holds t 0 (head ++ (producers ++ (rows ++ consumers)))
+  whole : Holds t 0 (OtherVersion.front long 2 ++ (producers ++ (rows ++ consumers)))
   unfolding inVersion2
   whole = record { byte = λ i b. rw zero-add refl }
 
   after-head : Holds t 5 (producers ++ (rows ++ consumers))
-  after-head = holds-right t 0 head (producers ++ (rows ++ consumers)) (omega (arith, length-head)) whole
+  after-head = OtherVersion.behind-front s t long 2 (producers ++ (rows ++ consumers)) whole
 
   after-producers : Holds t (rowAt l 0) (rows ++ consumers)
   after-producers =
@@ -85,8 +83,8 @@ module _ (s : List ℕ) (form : FormLimits s) (first : version s ≡ 1) where
       let e : 5 + (at - 5) ≡ at = omega arith in
       ap (bigEndian w t) (sym e) ∙ producers-same w (at - 5) (omega arith) ∙ ap (bigEndian w s) e
 
-  -- The length that version 2 asks for, which the head states.
-  longer : lengthField s + 2 * headerOf s .rows ≡ sheetLength l′
+  -- The length that version 2 asks for, which the front states.
+  longer : long ≡ sheetLength l′
   longer =
       omega (
         arith,
@@ -98,62 +96,34 @@ module _ (s : List ℕ) (form : FormLimits s) (first : version s ≡ 1) where
   length-after : length t ≡ sheetLength l′
   unfolding inVersion2
   length-after =
-      simp (length-append, length-head, length-from, length-rows)
+      simp (length-append, OtherVersion.length-front long 2, length-from, length-rows)
       (omega (arith, rows-from, rows-at, rw (row-width-2 l′ (omega arith)) at (sheet-length l′)))
     where
       rows-at : rowAt l 0 ≡ 14 + headerOf s .producers * (42 + 288 * headerOf s .days)
       rows-at = unfold rowAt producerAt in omega arith
 
-  head-fits : Fit (field 4 (lengthField s + 2 * headerOf s .rows) ∷ field 1 2 ∷ [])
-  head-fits =
-      let h = form .header in (
-        omega (
-          arith,
-          longer,
-          rw (row-width-2 l′ (omega arith)) at (sheet-length l′),
-          producers-le (headerOf s .producers) (headerOf s .days) (omega (arith, h .producers)) (omega (arith, h .days-to)),
-          h .rows,
-          h .consumers,
-        ),
-        (omega arith, tt),
+  long-fits : long < 4294967296
+  long-fits =
+      let h = form .header in
+      omega (
+        arith,
+        longer,
+        rw (row-width-2 l′ (omega arith)) at (sheet-length l′),
+        producers-le (headerOf s .producers) (headerOf s .days) (omega (arith, h .producers)) (omega (arith, h .days-to)),
+        h .rows,
+        h .consumers,
       )
 
-  head-read : (bigEndian 4 t 0 ≡ lengthField s + 2 * headerOf s .rows) × (bigEndian 1 t 4 ≡ 2)
-  head-read =
-      let r = read-laid t 0 (field 4 (lengthField s + 2 * headerOf s .rows) ∷ field 1 2 ∷ []) head-fits (holds-left t 0 head (producers ++ (rows ++ consumers)) whole) in
-      (r .0, r .1 .0)
-
-  length-stated : lengthField t ≡ sheetLength l′
-  unfolding lengthField
-  length-stated = head-read .0 ∙ (unfold lengthField in longer)
+  month-same : SameFields 9 t 5 s 5
+  month-same w k b = front w (5 + k) (omega arith) (omega (arith, rows-from))
 
   pub layout-after : layoutOf t ≡ l′
-  unfolding version
-  layout-after =
-      rw (
-        head-read .1,
-        header-same t s (λ w k b. front w (5 + k) (omega arith) (omega (arith, rows-from))),
-      )
-
-  header-after : headerOf t ≡ headerOf s
-  header-after = ap (λ (x : Layout). x .header) layout-after
-
-  version-after : version t ≡ 2
-  version-after = ap (λ (x : Layout). x .version) layout-after
+  layout-after = OtherVersion.layout-after s t long 2 (producers ++ (rows ++ consumers)) whole long-fits (omega arith) month-same
 
   pub form-after : FormLimits t
   form-after =
-      record {
-        whole-header = omega (arith, length-after, long);
-        length-told = length-stated ∙ sym length-after;
-        version-from = omega (arith, version-after);
-        version-to = omega (arith, version-after);
-        header = subst HeaderLimits (sym header-after) (form .header);
-        length-right = length-stated ∙ ap sheetLength (sym layout-after);
-      }
-    where
-      long : 14 ≤ sheetLength l′
-      long = omega (arith, sheet-length l′)
+      OtherVersion.form-after s t long 2 (producers ++ (rows ++ consumers)) whole long-fits (omega arith) month-same form (omega arith) (omega arith)
+      (length-after ∙ sym longer) longer
 
   -- The figures. Producers stand where they stood.
   producer-at : (p : ℕ) → producerAt l′ p ≡ producerAt l p
@@ -164,6 +134,7 @@ module _ (s : List ℕ) (form : FormLimits s) (first : version s ≡ 1) where
   producer-after p b =
       producer-same l l′ s t p
       (λ w k q. ap (λ (at : ℕ). bigEndian w t (at + k)) (producer-at p) ∙ front w (producerAt l p + k) (unfold producerAt in omega arith) (inside w k q))
+      (by-hour l′ (unfold byColumn in refl) ∙ sym (by-hour l (unfold byColumn in le-ltb 2 (version s) (omega (arith, first)))))
     where
       inside : (w k : ℕ) → k + w ≤ 42 + 288 * headerOf s .days → producerAt l p + k + w ≤ rowAt l 0
       inside w k q = unfold rowAt producerAt in omega (arith, mul-le-mul-right (42 + 288 * headerOf s .days) b)
@@ -215,8 +186,8 @@ module _ (s : List ℕ) (form : FormLimits s) (first : version s ≡ 1) where
   full-after =
       record {
         version-1 = first;
-        version-2 = version-after;
-        header = header-after;
+        version-2 = ap (λ (x : Layout). x .version) layout-after;
+        header = ap (λ (x : Layout). x .header) layout-after;
         producer = λ p b. rw layout-after (producer-after p b);
         row =
             λ j b.

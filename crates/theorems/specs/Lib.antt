@@ -6,3 +6,4 @@ pub mod Request3
 pub mod Request4
 pub mod Request5
 pub mod Request6
+pub mod Request7
