@@ -19,7 +19,7 @@ import programs
 import refused
 import ties
 from case_kinds import Kinds, in_bytes
-from columns import COLUMNS, HIGH_COLUMNS
+from hour_columns import COLUMNS, HIGH_COLUMNS
 from records import HEADER, MOST_CONSUMERS, MOST_ROWS, TOP_CAPACITY, TOP_Z
 from refusals import BUFFER_NUMBER, FORM, TRIED
 from refused import SETTLEMENT_ROOM

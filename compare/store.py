@@ -28,8 +28,8 @@ import record_cases
 import sheets
 import text_2015_cases
 from bands import EDGES
-from columns import COLUMNS, HIGH_COLUMNS
 from coverage import MARKS_OF_COLUMNS, MARKS_OF_DAYS, MARKS_OF_DAYS_REFUSED, MARKS_OF_HUNDREDTHS, marks_of
+from hour_columns import COLUMNS, HIGH_COLUMNS
 from programs import Trouble
 from records import COLUMN_HOURS, DAY_ROWS, FULL_ROWS
 from refusals import FIGURES, tried_before
