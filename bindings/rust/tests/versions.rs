@@ -40,11 +40,11 @@ fn columns(hours: &[u8]) -> Vec<u8> {
 fn in_columns(sheet: &[u8]) -> Vec<u8> {
     let [in_month, producers] = [sheet[5], sheet[11]].map(usize::from);
     let width = 42 + 288 * in_month;
-    let (front, back) = sheet.split_at(14 + producers * width);
-    let (header, stated) = front.split_at(14);
-    let stated: Vec<u8> =
-        stated.chunks_exact(width).flat_map(|producer| [&producer[..42], &columns(&producer[42..])].concat()).collect();
-    changed(&[header, &stated, back].concat(), 4, &[3])
+    let (header, records) = sheet.split_at(14);
+    let (producers, back) = records.split_at(producers * width);
+    let rearranged = |producer: &[u8]| [&producer[..42], &columns(&producer[42..])].concat();
+    let producers: Vec<u8> = producers.chunks_exact(width).flat_map(rearranged).collect();
+    changed(&[header, &producers, back].concat(), 4, &[3])
 }
 
 /// A sheet of version 1 in versions 2 and 3, where each row has these days.
@@ -181,8 +181,8 @@ fn hours_that_stand_otherwise_are_settled_otherwise() {
 fn a_list_and_a_record_change_the_same_figures() {
     for (entry, given) in [(transfer as common::Change, LIST), (average, RECORD)] {
         let after = answer_of(entry, MONTH, given).expect("it is to be taken");
-        let changed = both_with_days(MONTH, INSIDE).map(|sheet| answer_of(entry, &sheet, given));
-        assert_eq!(changed, both_with_days(&after, INSIDE).map(Ok));
+        let answers = both_with_days(MONTH, INSIDE).map(|sheet| answer_of(entry, &sheet, given));
+        assert_eq!(answers, both_with_days(&after, INSIDE).map(Ok));
     }
 }
 
