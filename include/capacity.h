@@ -14,8 +14,10 @@
  * overlap.
  *
  * Sheet, result, list and record are laid out as docs/RULES.md says: every field unsigned, big-endian, no padding.
- * Consumers are counted from 0. Every entry takes sheets of both versions: rows of version 1 cover the month, those of
- * version 2 state their first and last day. Results, lists and records are laid out alike beside either.
+ * Consumers are counted from 0. Every entry takes sheets of versions 1, 2 and 3. Rows of version 1 cover the month,
+ * those of versions 2 and 3 state their first and last day. A producer's powers stand hour by hour in versions 1 and 2,
+ * in version 3 as three columns: working, possible and outside-use power. Results, lists and records are laid out alike
+ * beside all of them.
  *
  * What a call needs of stack and processor, also under interrupts, is in docs/EMBEDDING.md.
  */
@@ -30,8 +32,8 @@ extern "C" {
 #endif
 
 /*
- * The longest sheet, in bytes: version 2, 6 producers, 31 days, 32 rows, 32 consumers. In version 1, where a row has
- * two bytes less, it is 54,634.
+ * The longest sheet, in bytes: version 2 or 3, 6 producers, 31 days, 32 rows, 32 consumers. In version 1, where a row
+ * has two bytes less, it is 54,634.
  */
 #define CAPACITY_LARGEST_SHEET 54698
 
@@ -65,7 +67,7 @@ extern "C" {
 enum capacity_refusal {
     CAPACITY_NO_HEADER = 1,       /* the sheet has fewer than 14 bytes */
     CAPACITY_WRONG_LENGTH = 2,    /* its length field is not the count of its bytes */
-    CAPACITY_OTHER_VERSION = 3,   /* its version is neither 1 nor 2 */
+    CAPACITY_OTHER_VERSION = 3,   /* its version is not 1, 2 or 3 */
     CAPACITY_BAD_MONTH = 4,       /* days, weekday or holidays */
     CAPACITY_TOO_MANY = 5,        /* producers, rows or consumers */
     CAPACITY_LENGTH_OFF = 6,      /* its length does not go with version, month and counts */

@@ -64,7 +64,7 @@ static const uint8_t members_unmeasured[44] = {
 /* Consumer 0 as an industrial complex: 176.0 drawn and 30.0 sent out in every hour, 20.0 imported. Its peak: 126.0. */
 enum { RECORD = CAPACITY_RECORD_FRONT + 24 * 30 * CAPACITY_RECORD_HOUR };
 
-static void fill_record(uint8_t record[RECORD])
+static inline void fill_record(uint8_t record[RECORD])
 {
     static const uint8_t front[CAPACITY_RECORD_FRONT] = {0, 0, RECORD / 256, RECORD % 256, 0, 0, 0, 0, 200};
     static const uint8_t hour[CAPACITY_RECORD_HOUR] = {0, 0, 6, 224, 0, 0, 1, 44};

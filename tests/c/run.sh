@@ -36,25 +36,25 @@ for file in crates/vectors/data/*; do
     esac
 done
 
-# The header alone; the example, and sheets of both versions.
+# The header alone; the example, sheets of all versions, and hours as columns.
 for std in c99 c11 c17; do
     echo '#include "capacity.h"' | strict "$CC" -std=$std -fsyntax-only -x c - || fail "the header is no $std"
 done
-for test in example versions; do
+for test in example versions columns; do
     strict "$CC" -std=c99 -o "$out/$test" "tests/c/$test.c" "$archive" || fail "$test.c does not build"
     "$out/$test" || fail "$test.c fails"
 done
 
 # The same from C++.
 if command -v "$CXX" >/dev/null 2>&1; then
-    for test in example versions; do
+    for test in example versions columns; do
         strict "$CXX" -std=c++11 -x c++ -o "$out/${test}_cpp" "tests/c/$test.c" -x none "$archive" ||
             fail "$test.c does not build as C++"
         "$out/${test}_cpp" >/dev/null || fail "$test.c fails as C++"
     done
-    echo "C++ example and versions: ok"
+    echo "C++ example, versions and columns: ok"
 else
-    echo "C++ example and versions: left out, there is no $CXX"
+    echo "C++ example, versions and columns: left out, there is no $CXX"
 fi
 
 # The header's readers of a result.

@@ -6,10 +6,10 @@
  *   stack transfer FILE...      files of stored lists (crates/vectors/data/transfers)
  *   stack average FILE...       files of stored records (crates/vectors/data/averages)
  *
- * Each case is answered on a stack of its own that was painted before: bytes that lost the paint were used, the return
- * address among them. That is done with two paints, since a byte written over with itself is not seen. The answer and
- * what the call writes must be as stored. It prints how many cases there were, the longest sheet, and the most bytes
- * used.
+ * The stored sheets are of all versions. Each case is answered on a stack of its own that was painted before: bytes
+ * that lost the paint were used, the return address among them. That is done with two paints, since a byte written over
+ * with itself is not seen. The answer and what the call writes must be as stored. It prints how many cases there were,
+ * the longest sheet, and the most bytes used.
  *
  * Status 1: another answer than the stored one. Status 2: wrong use, or trouble with a file. x86-64, GCC or Clang.
  */

@@ -13,7 +13,7 @@ pub use figures::{ConsumerLine, Figures, Figures2015, Line2015, RowLine, Totals}
 pub use lists::{list_length, write_list, Transfer, LIST_ENTRY, LIST_FRONT};
 pub use records::{record_length, write_record, Hour, LARGEST_RECORD, RECORD_FRONT, RECORD_HOUR};
 
-/// The longest sheet, in bytes: version 2, 6 producers, 31 days, 32 rows, 32 consumers.
+/// The longest sheet, in bytes: version 2 or 3, 6 producers, 31 days, 32 rows, 32 consumers.
 pub const LARGEST_SHEET: usize = 14 + 6 * (42 + 288 * 31) + 12 * 32 + 15 * 32;
 
 /// The longest result, in bytes: 32 rows, 32 consumers. A buffer of this size is long enough for every sheet.
@@ -54,7 +54,7 @@ impl Refusal {
     pub const NO_HEADER: Refusal = Refusal(1);
     /// The length field is not the count of bytes.
     pub const WRONG_LENGTH: Refusal = Refusal(2);
-    /// The version is unknown.
+    /// The version is not 1, 2 or 3.
     pub const OTHER_VERSION: Refusal = Refusal(3);
     /// Days, weekday or holidays.
     pub const BAD_MONTH: Refusal = Refusal(4);
@@ -140,10 +140,10 @@ fn changed(answer: i64) -> Result<(), Refusal> {
 /// Settles one month's sheet into a result buffer.
 ///
 /// The answer is the count of bytes written to the buffer's front: 21 + 16 for each row + 25 for each consumer. Bytes
-/// past them keep what they had. The sheet may be of version 1, whose rows cover the month, or of version 2, whose rows
-/// state their first and last day; so it may for every other entry. It may hold any bytes and have any length, and so
-/// may the buffer; neither has to be aligned. Nothing is allocated and no state is kept, so any number of threads may
-/// call at once.
+/// past them keep what they had. The sheet may be of version 1, whose rows cover the month, of version 2, whose rows
+/// state their first and last day, or of version 3, which also has each producer's hours as three columns; so it may
+/// for every other entry. It may hold any bytes and have any length, and so may the buffer; neither has to be aligned.
+/// Nothing is allocated and no state is kept, so any number of threads may call at once.
 ///
 /// # Errors
 ///

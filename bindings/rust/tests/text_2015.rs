@@ -96,7 +96,7 @@ fn rooms() {
 fn refusals_in_their_order() {
     assert_eq!(refused(&[], 0), Refusal::NO_HEADER);
     assert_eq!(refused(&EXAMPLE[..28], 0), Refusal::WRONG_LENGTH);
-    assert_eq!(refused(&changed(&EXAMPLE, 4, &[3]), 0), Refusal::OTHER_VERSION);
+    assert_eq!(refused(&changed(&EXAMPLE, 4, &[4]), 0), Refusal::OTHER_VERSION);
     let low_z = changed(&EXAMPLE, 24, &[9]);
     assert_eq!(refused(&low_z, 20), Refusal::SHORT_BUFFER);
     assert_eq!(refused(&low_z, 21), Refusal::BAD_FACTOR);
