@@ -1,9 +1,9 @@
 /*
  * Settles one sheet again and again, and prints the nanoseconds of a call, the answer, and a sum over the result.
  *
- *   timer module|c|module_2015|c_2015|sum|none CALLS SHEET [quiet]
+ *   timer module|c|c_tuned|module_2015|c_2015|sum|none CALLS SHEET [quiet]
  *
- * module: the proved archive. c: bench/settle.c. module_2015, c_2015: the same under the text of 2015. sum: no
+ * module: the proved archive. c: bench/settle.c; c_tuned: the same with TUNED. module_2015, c_2015: the same under the text of 2015. sum: no
  * settlement; the sheet's bytes are added up, eight at a time. none: the loop with the call left out. quiet: nothing is
  * printed, so that instructions can be counted.
  */
@@ -43,7 +43,7 @@ static const struct {
 } programs[] = {
     {"module", capacity_settle},           {"c", c_settle},
     {"module_2015", capacity_settle_2015}, {"c_2015", c_settle_2015},
-    {"sum", sum_of},
+    {"c_tuned", c_settle_tuned},           {"sum", sum_of},
 };
 
 /* The nanoseconds of a call. The settlement is known only when the program runs, so no call is left out or moved. */
@@ -61,7 +61,7 @@ static double timed(settlement *volatile settle, unsigned long calls, size_t len
 int main(int count, char **words)
 {
     if (count != 4 && count != 5) {
-        fputs("usage: timer module|c|module_2015|c_2015|sum|none CALLS SHEET [quiet]\n", stderr);
+        fputs("usage: timer module|c|c_tuned|module_2015|c_2015|sum|none CALLS SHEET [quiet]\n", stderr);
         return 2;
     }
     settlement *settle = NULL;
