@@ -16,5 +16,6 @@ pub mod SameFigures
 pub mod OtherVersion
 pub mod Version2
 pub mod Version3
+pub mod RearrangedAfter
 pub mod WholeTenths
 pub mod Requests

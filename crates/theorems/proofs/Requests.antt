@@ -51,6 +51,7 @@ use Rattle.theorems.proofs.Text2015 as Text2015
 use Rattle.theorems.proofs.SameFigures as SameFigures
 use Rattle.theorems.proofs.Version2 as Version2
 use Rattle.theorems.proofs.Version3 as Version3
+use Rattle.theorems.proofs.RearrangedAfter as RearrangedAfter
 use Rattle.theorems.proofs.WholeTenths as WholeTenths
 
 -- Request 1: transfers of contract volume -------------------------------------------------------------------------------------------
@@ -298,3 +299,10 @@ module _ (s : List ℕ) (form : firstOf (formTests s) ≡ 0) (second : version s
   -- The hours of each producer are handed back as the same stretch.
   pub rearranged-stretch : (p : ℕ) → hoursStretch (rearranged s) p ≡ hoursStretch s p
   rearranged-stretch = Version3.stretch-after s (form-limits s form) second
+
+  -- A list of transfers, or a complex's record, leaves of it the rearrangement of what it leaves of the sheet.
+  pub rearranged-transferred : (list : List ℕ) → transferred (rearranged s) list ≡ rearranged (transferred s list)
+  rearranged-transferred = RearrangedAfter.transferred-alike s (form-limits s form) second
+
+  pub rearranged-averaged : (r : List ℕ) → averaged (rearranged s) r ≡ rearranged (averaged s r)
+  rearranged-averaged = RearrangedAfter.averaged-alike s (form-limits s form) second

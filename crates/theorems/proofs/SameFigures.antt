@@ -125,6 +125,14 @@ module _ (s s′ : List ℕ) (form : firstOf (formTests s) ≡ 0) (form′ : fir
   then-same ts′ ts e =
       first-append (sheetTests s′) ts′ (sheet-numbered s′) ∙ rw (own-same, e) (sym (first-append (sheetTests s) ts (sheet-numbered s)))
 
+  pub transfer-refusal-same : (list : List ℕ) → transferRefusal s′ list ≡ transferRefusal s list
+  unfolding transferRefusal transferTests
+  transfer-refusal-same list = then-same _ _ (list-same s s′ list (a .header) (λ c l. ap (λ (k : Consumer). k .contract) (a .consumer c l)))
+
+  pub average-refusal-same : (r : List ℕ) → averageRefusal s′ r ≡ averageRefusal s r
+  unfolding averageRefusal averageTests
+  average-refusal-same r = then-same _ _ (ap (λ (h : Header). firstOf (recordTests h r)) (a .header))
+
   accepted : (room : ℕ) → refusal s room ≡ 0 → MonthLimits (monthOf s)
   accepted room none = limits s room none .month
 
@@ -143,11 +151,8 @@ module _ (s s′ : List ℕ) (form : firstOf (formTests s) ≡ 0) (form′ : fir
             λ out.
             unfold bufferAfter2015 in
             rw (refusal-2015-same (length out), result-2015-same (monthOf s) (monthOf s′) a);
-        transfer =
-            λ list.
-            unfold transferOutcome transferRefusal transferTests in
-            rw (then-same _ _ (list-same s s′ list (a .header) (λ c l. ap (λ (k : Consumer). k .contract) (a .consumer c l))));
-        average = λ r. unfold averageOutcome averageRefusal averageTests in rw (then-same _ _ (ap (λ (h : Header). firstOf (recordTests h r)) (a .header)));
+        transfer = λ list. unfold transferOutcome in rw (transfer-refusal-same list);
+        average = λ r. unfold averageOutcome in rw (average-refusal-same r);
       }
 
   -- With result buffers of one length, whatever stands in them.

@@ -56,10 +56,10 @@ module _ (s : List ℕ) (form : FormLimits s) (second : version s ≡ 2) where
   unfolding sheetLength consumerAt rowAt rowWidth statesDays hoursAt producerAt
   same-places = (refl, (λ j. refl), (λ c. refl), (λ p. refl), (λ p. refl))
 
-  rows-at : rowAt l 0 ≡ 14 + h .producers * (42 + 288 * h .days)
+  pub rows-at : rowAt l 0 ≡ 14 + h .producers * (42 + 288 * h .days)
   rows-at = unfold rowAt producerAt in omega arith
 
-  rows-inside : rowAt l 0 ≤ sheetLength l
+  pub rows-inside : rowAt l 0 ≤ sheetLength l
   rows-inside = omega (arith, rows-at, sheet-length l)
 
   -- Its parts, and their lengths.
@@ -76,10 +76,10 @@ module _ (s : List ℕ) (form : FormLimits s) (second : version s ≡ 2) where
   unfolding inColumns
   length-producer p = simp (length-append, length-from, length-column) (omega arith)
 
-  length-producers : length producers ≡ (42 + 288 * h .days) * h .producers
+  pub length-producers : length producers ≡ (42 + 288 * h .days) * h .producers
   length-producers = length-joined (inColumns l s) (42 + 288 * h .days) length-producer (h .producers)
 
-  length-after : length t ≡ sheetLength l
+  pub length-after : length t ≡ sheetLength l
   unfolding rearranged
   length-after =
       rw second
