@@ -5,14 +5,11 @@ import io
 import os
 import subprocess
 import sys
-import tempfile
 import traceback
 from pathlib import Path
 from typing import NamedTuple
 
 import programs
-import records
-import refusals
 
 ROOT = Path(__file__).resolve().parents[2]
 SHEET = ROOT / "tools" / "sheet"
@@ -136,27 +133,9 @@ def words_of(done):
     return f"status {done.returncode}\n{said[:1000]}".rstrip()
 
 
-def twin(content):
-    """The sheet that the rival is asked about. One of version 3 has the answer of its rearrangement in version 2; the
-    numbers up to 6 look at no power, so where one applies, the version alone is another."""
-    if content[4:5] != bytes([records.COLUMN_HOURS]):
-        return content
-    if refusals.form_refusal(content) is None:
-        return records.rearranged(content)
-    return content[:4] + bytes([records.DAY_ROWS]) + content[5:]
-
-
-def asked(case):
-    """A case as the rival is asked about it."""
-    return case._replace(sheet=twin(case.sheet))
-
-
 def by_rival(command, path):
     """What a command of the rival prints about a sheet."""
-    with tempfile.NamedTemporaryFile() as file:
-        file.write(twin(Path(path).read_bytes()))
-        file.flush()
-        return run(programs.RIVAL, command, file.name).stdout
+    return run(programs.RIVAL, command, path).stdout
 
 
 def files_in(folder):

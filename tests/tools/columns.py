@@ -9,7 +9,7 @@ import programs
 import records
 import refusals
 import text_2015
-from checks import CHANGES, EXAMPLES, check, report, report_2015, run, sheet, turned_down, twin, words_of
+from checks import CHANGES, EXAMPLES, check, report, report_2015, run, sheet, turned_down, words_of
 from days import CONTENTS, INSIDE, SECOND_ROW, with_days
 from texts import CONSTANT, GOOD, ROW, changed
 
@@ -278,7 +278,7 @@ def test_shown():
         check(f"\nversion             {version} (no such version)\n" in done.stdout.decode(),
               f"show: version {version}", words_of(done))
     readme = (EXAMPLES / "README.md").read_text()
-    for content in (COLUMNS.read_bytes(), twin(COLUMNS.read_bytes())):
+    for content in (COLUMNS.read_bytes(), records.rearranged(COLUMNS.read_bytes())):
         parts = sheet("show", "-", stdin=content).stdout.decode().split("\n\n")
         series = next(part for part in parts if part.startswith("Series"))
         check(f"```\n{series}\n```\n" in readme, "examples/README.md has the series of columns", series)
@@ -351,7 +351,7 @@ def test_settled():
         check(done.stdout == LISTING and not done.stderr, f"settle: {month.name}", words_of(done))
         done = report_2015(month)
         check(done.stdout == wanted_2015, f"--text-2015: {month.name}", words_of(done))
-    for content in (COLUMNS.read_bytes(), twin(COLUMNS.read_bytes())):
+    for content in (COLUMNS.read_bytes(), records.rearranged(COLUMNS.read_bytes())):
         done = report("-", stdin=content)
         check(done.stdout == LISTING, f"settle: version {content[4]}", words_of(done))
     month, = json.loads(report("--form", "json", COLUMNS).stdout)

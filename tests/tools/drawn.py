@@ -12,7 +12,7 @@ import programs
 import records
 import refusals
 import sheets
-from checks import SHEET, asked, check, files_in, run, sheet, words_of
+from checks import SHEET, check, files_in, run, sheet, words_of
 
 SEED = 20211022
 DRAWN = 1000
@@ -35,7 +35,7 @@ def draw():
 def by_rival(cases):
     """The rival's answers."""
     with tempfile.TemporaryDirectory() as folder:
-        return programs.rival_answers([asked(case) for case in cases], folder)
+        return programs.rival_answers(cases, folder)
 
 
 def covers_month(content):

@@ -10,7 +10,7 @@ from pathlib import Path
 import printing
 import programs
 import records
-from checks import EXAMPLES, check, run, sheet, twin, words_of
+from checks import EXAMPLES, check, run, sheet, words_of
 
 BY_TRACE = 40    # of the drawn sheets that are accepted and have producers
 TRACED = re.compile(r"control hours (\d+), their sum .*, average (.*), D (.*), p (\d+), n (.*)")
@@ -99,7 +99,7 @@ def test_by_rival(cases, answers):
     with tempfile.TemporaryDirectory() as folder:
         path = Path(folder) / "month.sheet"
         for content in accepted[:BY_TRACE]:
-            path.write_bytes(twin(content))
+            path.write_bytes(content)
             traced = TRACED.findall(run(programs.RIVAL, "trace", path).stdout.decode())
             wanted = [[hours, average, over, records.Z.text(int(p)), n] for hours, average, over, p, n in traced]
             found = records.Sheet.from_bytes(content)

@@ -11,7 +11,7 @@ import programs
 import records
 import results
 from answers import STAND_IN, as_settled, parted
-from checks import (CHANGES, EXAMPLES, LISTS, PROGRAM_2015, RECORDS, ROOT, asked, check, files_in, report, report_2015,
+from checks import (CHANGES, EXAMPLES, LISTS, PROGRAM_2015, RECORDS, ROOT, check, files_in, report, report_2015,
                     run, sheet, turned_down, words_of)
 from texts import BACK, GOOD, changed
 
@@ -341,7 +341,7 @@ def test_impossible(cases, _answers):
     """Every result of the rival is possible under its sheet. In that of the full month no byte can be changed without
     being noticed, and in that of the old act it is said what is wrong."""
     with tempfile.TemporaryDirectory() as folder:
-        answers = programs.rival_answers([asked(case) for case in cases], folder, "batch2015")
+        answers = programs.rival_answers(cases, folder, "batch2015")
     settled = [(case.sheet, answer) for case, answer in zip(cases, answers) if isinstance(answer, bytes)]
     check(len(settled) > 300, f"the drawn sheets: only {len(settled)} are settled")
     for content, answer in settled:
