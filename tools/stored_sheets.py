@@ -135,6 +135,7 @@ STORED = {
     "month": month(),
     "inside_month": inside_month(),
     "small_deductible": (ROOT / "examples/small-deductible.sheet").read_bytes(),
+    "columns": (ROOT / "examples/columns.sheet").read_bytes(),
     "zeros": zeros(),
     "largest": largest(),
     "header": sheet(28, 1),

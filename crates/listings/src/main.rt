@@ -17,6 +17,7 @@ fn main() {
     list_file(b"month");
     list_file(b"inside_month");
     list_file(b"small_deductible");
+    list_file(b"columns");
     list_file(b"zeros");
     list_file(b"largest");
     list_file(b"header");
