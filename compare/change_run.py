@@ -36,5 +36,6 @@ def compare_cases(run_class, where, count, marks, told):
         rearranged.check(cases, answers)
     print(f"{kinds.given}s: {done} of {count} {told}, the sheet accepted in the same room")
     rearranged.print(f"sheets with {kinds.given}s")
+    coverage.missed = rearranged.never_reached("sheets")
     coverage.print_all(f"{kinds.given}s", ("sheet_", f"{kinds.given}_"))
     return coverage.failure(count, f"{kinds.given}s")

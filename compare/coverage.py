@@ -53,6 +53,7 @@ class Coverage:
         self.titles = titles
         self.all_kinds = [f"{group}/{corner}" for group, corners in groups.items() for corner in corners]
         self.marks, self.kinds = Counter(), Counter()
+        self.missed = []    # words of what else was never reached
 
     def add(self, cases, lines):
         """Counts cases with the line of marks of each."""
@@ -83,7 +84,7 @@ class Coverage:
 
     def never_reached(self):
         missed = [mark for marks in self.titles.values() for mark in marks if self.marks[mark] == 0]
-        return missed + [kind for kind in self.all_kinds if self.kinds[kind] == 0]
+        return missed + [kind for kind in self.all_kinds if self.kinds[kind] == 0] + self.missed
 
     def failure(self, count, what):
         """The words of what so many cases never reached, or none."""

@@ -53,6 +53,7 @@ def compare_sheets(run, again, other_versions, settling, count):
         other_versions.check(cases, answers)
     print(f"text of 2015: {accepted} of {count} sheets accepted, and each by both entries in the settlement's room")
     other_versions.print("sheets under the text of 2015")
+    coverage.missed = other_versions.never_reached("sheets")
     return coverage
 
 

@@ -57,6 +57,9 @@ class InVersion2(Again):
         print(f"{what} of version 1 again in version 2, with rows that cover the month: {self.found[FULL_ROWS]}, "
               "the same answer")
 
+    def never_reached(self, what):
+        return [] if self.found[FULL_ROWS] else [f"{what} of version 1 again in version 2"]
+
 
 class Rearranging(SheetRun):
     answer_command = "rearranges"
@@ -86,6 +89,11 @@ class Rearranged(Again):
         print(f"{what} rearranged: {self.found[DAY_ROWS]} of version 2 by column, {self.found[COLUMN_HOURS]} of "
               f"version 3 hour by hour, as the rival does it; in {self.moved} powers stand elsewhere; {told}")
 
+    def never_reached(self, what):
+        counts = {f"{what} of version {version} rearranged": self.found[version] for version in REARRANGED}
+        counts[f"{what} rearranged, with powers elsewhere"] = self.moved
+        return [words for words, count in counts.items() if count == 0]
+
 
 class RearrangedChanges(Rearranged):
     """Of sheets that are changed: the changed sheet is rearranged too."""
@@ -111,3 +119,6 @@ class OtherVersions:
     def print(self, what):
         for each in self.all:
             each.print(what)
+
+    def never_reached(self, what):
+        return [words for each in self.all for words in each.never_reached(what)]

@@ -172,7 +172,7 @@ def states_days(version):
 
 def in_columns(version):
     """Whether a producer's hours stand as three columns."""
-    return version == COLUMN_HOURS
+    return version >= COLUMN_HOURS
 
 
 def layout_words(version):

@@ -58,7 +58,7 @@ static void check_exchanged(int one, int another)
     expect_other("columns exchanged");
 }
 
-/* What stands in a column so many bytes further on. */
+/* What stands in a column so many bytes further on. A byte further on a power is above the ceiling: refused by 9. */
 static void check_late(int which, size_t bytes)
 {
     fill_in(3);

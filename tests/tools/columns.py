@@ -1,5 +1,5 @@
 """Hours as columns, in sheets of version 3: where each power stands, texts, rearrange, show, explain and check;
-settled, and changed by lists and records. The answers are the rival's to the sheet rearranged in version 2."""
+settled, and changed by lists and records. The answers are the rival's."""
 import json
 import random
 from array import array

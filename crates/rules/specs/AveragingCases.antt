@@ -190,6 +190,11 @@ pub peak-written : peakWritten (threeConsumers 2 1 (0 ∷ 1 ∷ 2 ∷ 9 ∷ []) 
 unfolding settlement layout averaging
 peak-written = refl
 
+-- In version 3 too. [Requests, 7]
+pub peak-written-in-3 : peakWritten (threeConsumers 3 1 (0 ∷ 1 ∷ 2 ∷ 9 ∷ []) 10) oneDay ≡ threeConsumers 3 1 (0 ∷ 0 ∷ 1 ∷ 244 ∷ []) 10
+unfolding settlement layout averaging
+peak-written-in-3 = refl
+
 -- A record of one day leaves a sheet of 28 days as it was.
 pub day-outcome : averageOutcome plain oneDay ≡ refused 16
 unfolding settlement layout averaging

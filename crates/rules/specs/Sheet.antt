@@ -228,9 +228,9 @@ inVersion2 s =
     ++ (joined (λ j. bytesFrom s (rowAt (layoutOf s) j) 10 ++ (1 ∷ headerOf s .days ∷ [])) (headerOf s .rows)
     ++ bytesFrom s (consumerAt (layoutOf s) 0) (consumerWidth (layoutOf s) * headerOf s .consumers)))
 
--- The powers of a series one after the other, in the stretch that begins at a place: so many of 4 bytes. [Requests, 7]
+-- The first n powers of a series one after the other, 4 bytes each, in the stretch that begins at a place. [Requests, 7]
 unfoldable pub column : List ℕ → ℕ → ℕ → Series → List ℕ
-column s at hours x = joined (λ i. bytesFrom s (powerAt at x i) 4) hours
+column s at n x = joined (λ i. bytesFrom s (powerAt at x i) 4) n
 
 -- Producer p under a layout, its hours by column: its stated figures as they stand, then a column for each of its series. [Requests, 7]
 unfoldable pub inColumns : Layout → List ℕ → ℕ → List ℕ

@@ -163,6 +163,12 @@ pub chain-applied : transferred plain chain ≡ threeConsumers 1 (0 ∷ 0 ∷ 0 
 unfolding settlement layout transfers
 chain-applied = refl
 
+-- In version 3 too. [Requests, 7]
+pub chain-applied-in-3 : transferred (threeConsumers 3 (0 ∷ 0 ∷ 3 ∷ 232 ∷ []) (0 ∷ 0 ∷ 1 ∷ 244 ∷ []) (0 ∷ 1 ∷ 130 ∷ 184 ∷ []) 10) chain
+    ≡ threeConsumers 3 (0 ∷ 0 ∷ 0 ∷ 0 ∷ []) (0 ∷ 0 ∷ 1 ∷ 244 ∷ []) (0 ∷ 1 ∷ 134 ∷ 160 ∷ []) 10
+unfolding settlement layout transfers
+chain-applied-in-3 = refl
+
 pub chain-outcome : transferOutcome plain chain ≡ written 0
 unfolding settlement layout transfers
 chain-outcome = refl

@@ -1,4 +1,4 @@
--- Request 5 as statements: sheets of both versions that state the same figures, and what they are answered. [Requests, 5]
+-- Request 5 as statements: sheets of versions 1 and 2 that state the same figures, and what they are answered. [Requests, 5]
 use Prim.Native.Nat.{ℕ, _<_}
 use mathlib.Core.Path.{_≡_}
 use mathlib.Core.List.{List}
