@@ -277,6 +277,8 @@ def test_shown():
         done = sheet("show", "-", stdin=bytes(content))
         check(f"\nversion             {version} (no such version)\n" in done.stdout.decode(),
               f"show: version {version}", words_of(done))
+        series = next(part for part in done.stdout.decode().split("\n\n") if part.startswith("Series"))
+        check(series.split()[-1] == ("4" if version > 3 else "12"), f"show: the series of version {version}", series)
     readme = (EXAMPLES / "README.md").read_text()
     for content in (COLUMNS.read_bytes(), records.rearranged(COLUMNS.read_bytes())):
         parts = sheet("show", "-", stdin=content).stdout.decode().split("\n\n")
