@@ -54,8 +54,14 @@ fn columns(h: Header) -> HourSeries
     let days = h.days as u16;
     HourSeries {
         working: Series { start: 0, step: 4 },
-        possible: Series { start: 96 * days, step: 4 },
-        outside: Series { start: 192 * days, step: 4 },
+        possible: Series {
+            start: 96 * days,
+            step: 4,
+        },
+        outside: Series {
+            start: 192 * days,
+            step: 4,
+        },
     }
 }
 
@@ -63,7 +69,11 @@ fn columns(h: Header) -> HourSeries
 pub fn hour_series(layout: Layout) -> HourSeries
     ensures { λ r. ⌜ r ≡ hourSeries layout ⌝ }
 {
-    if by_column(layout) { columns(layout.header) } else { triples() }
+    if by_column(layout) {
+        columns(layout.header)
+    } else {
+        triples()
+    }
 }
 
 // Whether rows state the days that they cover.
