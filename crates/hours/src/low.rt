@@ -101,15 +101,10 @@ pub(crate) struct FirstDays {
     pub(crate) days: usize,
 }
 
-// Block by block, as far as powers are low; no days where S is not below 65,536, or the part ends before three bytes after the last power.
-pub(crate) fn low_days(
-    part: &[u8],
-    working: u16,
-    possible: u16,
-    days: u8,
-    summed: Tenths,
-) -> FirstDays
-    ensures { λ r. ⌜ K4Before (powerIn (now (part .entry)) (series working 4)) (powerIn (now (part .entry)) (series possible 4)) (summed .0) (24 * r .days) (r .sums)
+// Block by block, as far as powers are low.
+fn through_blocks(part: &[u8], working: u16, possible: u16, days: u8, summed: u32) -> FirstDays
+    requires { ⌜ (working + 96 * days + 3 ≤ length (now part)) × (possible + 96 * days + 3 ≤ length (now part)) ⌝ }
+    ensures { λ r. ⌜ K4Before (powerIn (now (part .entry)) (series working 4)) (powerIn (now (part .entry)) (series possible 4)) summed (24 * r .days) (r .sums)
         × (r .days ≤ days) ⌝ }
 {
     let mut sums = K4 {
@@ -117,26 +112,11 @@ pub(crate) fn low_days(
         met: Tenths(0),
     };
     let mut day: usize = 0;
-    let least = (summed.0 % 65536) as u32;
-    let width = 96 * (days as usize) + 3;
-    if least as u64 != summed.0 {
-        return FirstDays { sums, days: day };
-    }
-    if part.len() < (working as usize) + width {
-        return FirstDays { sums, days: day };
-    }
-    if part.len() < (possible as usize) + width {
-        return FirstDays { sums, days: day };
-    }
     while day < days as usize {
         let end = block_end(day, days as usize);
-        let k = low_hours(
-            part,
-            (working as usize) + 96 * day,
-            (possible as usize) + 96 * day,
-            24 * (end - day),
-            least,
-        );
+        let w = (working as usize) + 96 * day;
+        let p = (possible as usize) + 96 * day;
+        let k = low_hours(part, w, p, 24 * (end - day), summed);
         if 0 < k.bits % 256 + k.bits / 16777216 {
             return FirstDays { sums, days: day };
         }
@@ -147,4 +127,36 @@ pub(crate) fn low_days(
         day = end;
     }
     FirstDays { sums, days: day }
+}
+
+// The same; no days where S is not below 65,536, or where the part ends before the three bytes after the last power.
+pub(crate) fn low_days(
+    part: &[u8],
+    working: u16,
+    possible: u16,
+    days: u8,
+    summed: Tenths,
+) -> FirstDays
+    ensures { λ r. ⌜ K4Before (powerIn (now (part .entry)) (series working 4)) (powerIn (now (part .entry)) (series possible 4)) (summed .0) (24 * r .days) (r .sums)
+        × (r .days ≤ days) ⌝ }
+{
+    let none = FirstDays {
+        sums: K4 {
+            asked: Tenths(0),
+            met: Tenths(0),
+        },
+        days: 0,
+    };
+    let least = (summed.0 % 65536) as u32;
+    let width = 96 * (days as usize) + 3;
+    if least as u64 != summed.0 {
+        return none;
+    }
+    if part.len() < (working as usize) + width {
+        return none;
+    }
+    if part.len() < (possible as usize) + width {
+        return none;
+    }
+    through_blocks(part, working, possible, days, least)
 }
