@@ -1,6 +1,6 @@
-// Big-endian fields, read at any place of a slice.
+// Big-endian fields, read at any place of a slice; and four bytes as the machine's word has them.
 ghost use mathlib.Core.Path.{_≡_};
-ghost use Prim.Native.Nat.{_≤_};
+ghost use Prim.Native.Nat.{_+_, _*_, _≤_};
 ghost use Rattle.rules.specs.Fields.{bigEndian};
 
 // The byte at a place; 0 past the end.
@@ -49,4 +49,11 @@ pub fn word(s: &[u8], at: usize) -> u32
         return word_at_end(s, at);
     }
     wide(s[at]) * 16777216 + wide(s[at + 1]) * 65536 + wide(s[at + 2]) * 256 + wide(s[at + 3])
+}
+
+// The number in four bytes, the first of them lowest.
+pub fn little_endian(a: u8, b: u8, c: u8, d: u8) -> u32
+    ensures { λ r. ⌜ r ≡ a + b * 256 + c * 65536 + d * 16777216 ⌝ }
+{
+    wide(a) + wide(b) * 256 + wide(c) * 65536 + wide(d) * 16777216
 }

@@ -1,5 +1,5 @@
 -- Powers of a series that stand in a part. Assumes nothing.
-use mathlib.Core.Path.{_≡_}
+use mathlib.Core.Path.{_≡_, ap}
 use mathlib.Core.Bool.{true}
 use mathlib.Core.List.{List}
 use Prim.Native.Nat.{ℕ, _+_, _*_, _≤_, _<_}
@@ -8,6 +8,7 @@ use native.Mathlib.Omega.{arith}
 use borrow.Author.Tests.{leb-true}
 use lib.ListN.{length}
 use Rattle.rules.specs.declared.Series.{Series}
+use Rattle.rules.specs.Sheet.{series}
 use Rattle.laws.proofs.Range.{both}
 use Rattle.hours.specs.declared.series.Hourly.{Hourly}
 use Rattle.hours.specs.Series.{stands, Stands, hourlyStands, HourlyStands}
@@ -24,6 +25,10 @@ module _ (part : List ℕ) (x : Series) where
   -- The last of them ends within.
   pub ends : (i : ℕ) → Stands part x (i + 1) → x .start + x .step * i + 4 ≤ length part
   ends i h = omega (arith, h)
+
+-- A series by its start, where it is known how far its powers stand apart.
+pub apart : (x : Series) {n : ℕ} → x .step ≡ n → x ≡ series (x .start) n
+apart x e = ap (series (x .start)) e
 
 -- What a part says of its hours.
 module _ (part : List ℕ) where

@@ -1,3 +1,4 @@
 pub mod Series
 pub mod Sums
 pub mod Control
+pub mod Low

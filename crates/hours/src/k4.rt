@@ -1,8 +1,10 @@
 // k4's sums over the hours.
 ghost use mathlib.Core.Path.{_≡_};
 ghost use Prim.Native.Nat.{_+_, _*_, _<_, _≤_};
+ghost use Rattle.rules.specs.Sheet.{series};
 ghost use Rattle.hours.specs.Series.{Stands, powerIn};
 ghost use Rattle.hours.specs.Sums.{K4Before, k4In};
+use crate::low::low_days;
 use crate::series::power;
 use crate::series::stands;
 use rules::Series;
@@ -29,42 +31,100 @@ fn with_hour(k: K4, part: &[u8], working: Series, possible: Series, i: usize, su
     }
 }
 
-// The same with three hours.
-fn with_three(k: K4, part: &[u8], working: Series, possible: Series, i: usize, summed: Tenths) -> K4
-    requires { ⌜ Stands (now part) working (i + 3) × Stands (now part) possible (i + 3) × (i < 6998) ⌝ }
-    requires { ⌜ K4Before (powerIn (now part) working) (powerIn (now part) possible) (summed .0) i k ⌝ }
-    ensures { λ r. ⌜ K4Before (powerIn (now (part .entry)) working) (powerIn (now (part .entry)) possible) (summed .0) (i + 3) r ⌝ }
+// The same with so many hours from one on.
+fn with_hours(
+    k: K4,
+    part: &[u8],
+    working: Series,
+    possible: Series,
+    from: usize,
+    count: usize,
+    summed: Tenths,
+) -> K4
+    requires { ⌜ Stands (now part) working (from + count) × Stands (now part) possible (from + count) × (from + count ≤ 6120) ⌝ }
+    requires { ⌜ K4Before (powerIn (now part) working) (powerIn (now part) possible) (summed .0) from k ⌝ }
+    ensures { λ r. ⌜ K4Before (powerIn (now (part .entry)) working) (powerIn (now (part .entry)) possible) (summed .0) (from + count) r ⌝ }
 {
-    let a = with_hour(k, part, working, possible, i, summed);
-    let b = with_hour(a, part, working, possible, i + 1, summed);
-    with_hour(b, part, working, possible, i + 2, summed)
+    let mut sums = k;
+    let mut i: usize = 0;
+    while i < count {
+        sums = with_hour(sums, part, working, possible, from + i, summed);
+        i += 1;
+    }
+    sums
 }
 
-// The same with six hours, so that the loop over the hours turns once for all of them.
-fn with_six(k: K4, part: &[u8], working: Series, possible: Series, i: usize, summed: Tenths) -> K4
-    requires { ⌜ Stands (now part) working (i + 6) × Stands (now part) possible (i + 6) × (i < 6995) ⌝ }
-    requires { ⌜ K4Before (powerIn (now part) working) (powerIn (now part) possible) (summed .0) i k ⌝ }
-    ensures { λ r. ⌜ K4Before (powerIn (now (part .entry)) working) (powerIn (now (part .entry)) possible) (summed .0) (i + 6) r ⌝ }
+// The same in so many turns of so many hours each. Its callers differ in the hours of a turn: of one number for all, the compiler makes one loop
+// in which it does not know the step.
+fn through_hours(
+    k: K4,
+    part: &[u8],
+    working: Series,
+    possible: Series,
+    from: usize,
+    turns: usize,
+    turn: usize,
+    summed: Tenths,
+) -> K4
+    requires { ⌜ Stands (now part) working (from + turn * turns) × Stands (now part) possible (from + turn * turns) × (from + turn * turns ≤ 6120) ⌝ }
+    requires { ⌜ K4Before (powerIn (now part) working) (powerIn (now part) possible) (summed .0) from k ⌝ }
+    ensures { λ r. ⌜ K4Before (powerIn (now (part .entry)) working) (powerIn (now (part .entry)) possible) (summed .0) (from + turn * turns) r ⌝ }
 {
-    let a = with_three(k, part, working, possible, i, summed);
-    with_three(a, part, working, possible, i + 3, summed)
+    let mut sums = k;
+    let mut q: usize = 0;
+    while q < turns {
+        sums = with_hours(sums, part, working, possible, from + turn * q, turn, summed);
+        q += 1;
+    }
+    sums
 }
 
-// k4's sums over a month of so many days, whose powers stand in the part.
-fn through_hours(part: &[u8], working: Series, possible: Series, days: u8, summed: Tenths) -> K4
-    requires { ⌜ Stands (now part) working (24 * days) × Stands (now part) possible (24 * days) ⌝ }
-    ensures { λ r. ⌜ K4Before (powerIn (now (part .entry)) working) (powerIn (now (part .entry)) possible) (summed .0) (24 * days) r ⌝ }
+// k4's sums over a month of so many days, hour by hour, 12 bytes to an hour. The step is written out, so that the compiler knows it.
+fn by_hour(part: &[u8], working: u16, possible: u16, days: u8, summed: Tenths) -> K4
+    requires { ⌜ Stands (now part) (series working 12) (24 * days) × Stands (now part) (series possible 12) (24 * days) ⌝ }
+    ensures { λ r. ⌜ K4Before (powerIn (now (part .entry)) (series working 12)) (powerIn (now (part .entry)) (series possible 12)) (summed .0) (24 * days) r ⌝ }
 {
-    let mut k = K4 {
+    let none = K4 {
         asked: Tenths(0),
         met: Tenths(0),
     };
-    let mut q: usize = 0;
-    while q < 4 * (days as usize) {
-        k = with_six(k, part, working, possible, 6 * q, summed);
-        q += 1;
-    }
-    k
+    let w = Series {
+        start: working,
+        step: 12,
+    };
+    let p = Series {
+        start: possible,
+        step: 12,
+    };
+    through_hours(none, part, w, p, 0, 4 * (days as usize), 6, summed)
+}
+
+// The same by column: the low days first, and the days after them as any others.
+fn by_column(part: &[u8], working: u16, possible: u16, days: u8, summed: Tenths) -> K4
+    requires { ⌜ Stands (now part) (series working 4) (24 * days) × Stands (now part) (series possible 4) (24 * days) ⌝ }
+    ensures { λ r. ⌜ K4Before (powerIn (now (part .entry)) (series working 4)) (powerIn (now (part .entry)) (series possible 4)) (summed .0) (24 * days) r ⌝ }
+{
+    let first = low_days(part, working, possible, days, summed);
+    let day = first.days;
+    let sums = first.sums;
+    let w = Series {
+        start: working,
+        step: 4,
+    };
+    let p = Series {
+        start: possible,
+        step: 4,
+    };
+    through_hours(
+        sums,
+        part,
+        w,
+        p,
+        24 * day,
+        3 * ((days as usize) - day),
+        8,
+        summed,
+    )
 }
 
 // k4's sums over a month of so many days, for a summed capacity S. There are none where the part ends before the powers do.
@@ -72,12 +132,28 @@ pub fn k4_sums(part: &[u8], working: Series, possible: Series, days: u8, summed:
     ensures { λ r. ⌜ r ≡ k4In (now (part .entry)) working possible days (summed .0) ⌝ }
     ensures fits { λ r. ⌜ (r .asked .0 ≤ mostWord * (24 * days)) × (r .met .0 ≤ mostWord * (24 * days)) ⌝ }
 {
-    let hours = 24 * (days as u16);
-    if stands(part, working, hours) & stands(part, possible, hours) {
-        return through_hours(part, working, possible, days, summed);
-    }
-    K4 {
+    let none = K4 {
         asked: Tenths(0),
         met: Tenths(0),
+    };
+    let hours = 24 * (days as u16);
+    if !(stands(part, working, hours) & stands(part, possible, hours)) {
+        return none;
     }
+    if (working.step == 4) & (possible.step == 4) {
+        return by_column(part, working.start, possible.start, days, summed);
+    }
+    if (working.step == 12) & (possible.step == 12) {
+        return by_hour(part, working.start, possible.start, days, summed);
+    }
+    through_hours(
+        none,
+        part,
+        working,
+        possible,
+        0,
+        24 * (days as usize),
+        1,
+        summed,
+    )
 }

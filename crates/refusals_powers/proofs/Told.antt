@@ -3,10 +3,11 @@ use mathlib.Core.Path.{_≡_, refl, sym, ap, _∙_}
 use mathlib.Core.Bool.{Bool, true, false, _||_}
 use Prim.Native.Nat.{ℕ, zero, suc, _+_, _*_, _/_, _%_, _^_, _<_, _≤_}
 use native.Mathlib.Omega.{arith}
-use lib.Bits.{bitOr, or-shr, or-mod, or-zero-l, or-add-and, and-le-l, and-le-r}
+use lib.Bits.{bitOr, or-shr, or-mod, or-zero-l, or-add-and, and-le-r}
 use lib.Dec.{ltb}
 use borrow.Author.Tests.{ltb-true, ltb-false, lt-ltb, le-ltb}
 use Rattle.rules.specs.Refusals.{tooHigh}
+use Rattle.fields.proofs.Bits.{or-none}
 use Rattle.laws.proofs.Range.{or-swap}
 use Rattle.refusals_powers.specs.declared.Marks.{Marks}
 use Rattle.refusals_powers.specs.Marks.{marked, Turned}
@@ -42,10 +43,7 @@ none-told = refl
 
 -- A joined number ends in 16 zeros where both do.
 pub or-last : (a b : ℕ) → bitOr a b % 65536 ≡ 0 → (a % 65536 ≡ 0) × (b % 65536 ≡ 0)
-or-last a b e =
-    let none : bitOr (a % 65536) (b % 65536) ≡ 0 = sym (or-mod a b 16) ∙ e in
-    let sum = or-add-and (a % 65536) (b % 65536) in
-    (omega (arith, and-le-r (a % 65536) (b % 65536)), omega (arith, and-le-l (a % 65536) (b % 65536)))
+or-last a b e = or-none (a % 65536) (b % 65536) (sym (or-mod a b 16) ∙ e)
 
 -- Of three numbers one is not 0 just where a fourth is above the ceiling.
 abbrev Tell : ℕ → ℕ → ℕ → ℕ → Type 0

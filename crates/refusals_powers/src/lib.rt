@@ -10,6 +10,7 @@ ghost use Rattle.rules.specs.Fields.{bigEndian};
 ghost use Rattle.rules.specs.Refusals.{tooHigh};
 ghost use Rattle.refusals_powers.specs.Powers.{highPower, highPowers, highFrom};
 ghost use Rattle.refusals_powers.specs.Marks.{marked, Turned};
+use fields::little_endian;
 use fields::word;
 use refusals_record::too_high;
 
@@ -19,18 +20,12 @@ struct Marks {
     above: u32,
 }
 
-fn wide(b: u8) -> u32
-    ensures { λ r. ⌜ (r ≡ b) × (r ≤ 255) ⌝ }
-{
-    b as u32
-}
-
 // The power at a place as it stands in the machine's word, its front byte lowest.
 fn turned(s: &[u8], at: usize) -> u32
     requires { ⌜ at + 4 ≤ length (now s) ⌝ }
     ensures { λ r. ⌜ Turned (bigEndian 4 (now (s .entry)) at) r ⌝ }
 {
-    wide(s[at]) + wide(s[at + 1]) * 256 + wide(s[at + 2]) * 65536 + wide(s[at + 3]) * 16777216
+    little_endian(s[at], s[at + 1], s[at + 2], s[at + 3])
 }
 
 // The bits of so many powers from a place on.

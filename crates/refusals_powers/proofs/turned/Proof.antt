@@ -1,101 +1,65 @@
-use borrow.Author.Needs.{needs}
 use native.Mathlib.Omega.{arith}
 use native.Mathlib.Nat.{add-zero}
+use Prim.Native.Nat.{_+_}
+use lib.ListN.{getD}
 use Rattle.rules.specs.Fields.{bigEndian}
-use mathlib.Core.Path.{refl}
+use borrow.Author.Needs.{needs}
 use Rattle.refusals_powers.proofs.turned.Statement.{statement}
 use Rattle.refusals_powers.proofs.turned.Tie as tie
 
-shared-slice-read-wide : tie.Need-shared-slice-read-wide
-shared-slice-read-wide c = search needs
+shared-slice-read-little-endian : tie.Need-shared-slice-read-little-endian
+shared-slice-read-little-endian c = search needs
 
-wide-requires : tie.Need-wide-requires
-wide-requires c κs = search needs
+add-little-endian : tie.Need-add-little-endian
+add-little-endian c = search needs
 
-add-wide : tie.Need-add-wide
-add-wide c = search needs
+shared-slice-read-little-endian-2 : tie.Need-shared-slice-read-little-endian-2
+shared-slice-read-little-endian-2 c = search needs
 
-shared-slice-read-wide-2 : tie.Need-shared-slice-read-wide-2
-shared-slice-read-wide-2 c = search needs
+add-little-endian-2 : tie.Need-add-little-endian-2
+add-little-endian-2 c = search needs
 
-wide-requires-2 : tie.Need-wide-requires-2
-wide-requires-2 c κs = search needs
+shared-slice-read-little-endian-3 : tie.Need-shared-slice-read-little-endian-3
+shared-slice-read-little-endian-3 c = search needs
 
-mul-result : tie.Need-mul-result
-mul-result c = search needs
+add-little-endian-3 : tie.Need-add-little-endian-3
+add-little-endian-3 c = search needs
 
-add-result : tie.Need-add-result
-add-result c = search needs
+shared-slice-read-little-endian-4 : tie.Need-shared-slice-read-little-endian-4
+shared-slice-read-little-endian-4 c = search needs
 
-add-wide-2 : tie.Need-add-wide-2
-add-wide-2 c = search needs
-
-shared-slice-read-wide-3 : tie.Need-shared-slice-read-wide-3
-shared-slice-read-wide-3 c = search needs
-
-wide-requires-3 : tie.Need-wide-requires-3
-wide-requires-3 c κs = search needs
-
-mul-result-2 : tie.Need-mul-result-2
-mul-result-2 c = search needs
-
-add-result-2 : tie.Need-add-result-2
-add-result-2 c = search needs
-
-add-wide-3 : tie.Need-add-wide-3
-add-wide-3 c = search needs
-
-shared-slice-read-wide-4 : tie.Need-shared-slice-read-wide-4
-shared-slice-read-wide-4 c = search needs
-
-wide-requires-4 : tie.Need-wide-requires-4
-wide-requires-4 c κs = search needs
-
-mul-result-3 : tie.Need-mul-result-3
-mul-result-3 c = search needs
-
-add-result-3 : tie.Need-add-result-3
-add-result-3 c = search needs
+little-endian-requires : tie.Need-little-endian-requires
+little-endian-requires c κs = search needs
 
 returns : tie.Need-returns
 unfolding bigEndian
 returns c =
-    let a = c .before .before .before .before .before .before .wide in
-    let b = c .before .before .before .before .wide2 in
-    let x = c .before .before .wide3 in
-    let y = c .wide4 in
+    let byte = c .before .shared-slice-known5 .given in
+    let s = c .before .before .before .before .before .before .args .s .now in
+    let at = c .before .before .before .before .before .before .args .at in
     record {
-      first = a .result;
-      second = b .result;
-      third = x .result;
-      last = y .result;
-      first-fits = a .ensures .1;
-      second-fits = b .ensures .1;
-      third-fits = x .ensures .1;
-      last-fits = y .ensures .1;
-      is-power = simp add-zero (omega (arith, a .ensures .0, b .ensures .0, x .ensures .0, y .ensures .0));
-      is-word = refl;
+      first = getD s at 0;
+      second = getD s (at + 1) 0;
+      third = getD s (at + 2) 0;
+      last = getD s (at + 3) 0;
+      first-fits = omega (arith, byte at);
+      second-fits = omega (arith, byte (at + 1));
+      third-fits = omega (arith, byte (at + 2));
+      last-fits = omega (arith, byte (at + 3));
+      is-power = simp add-zero (omega arith);
+      is-word = c .little-endian .ensures;
     }
 
 pub turned-spec : {M : Type 1} → statement M
 turned-spec =
     tie.close
     (tie.spec
-    shared-slice-read-wide
-    wide-requires
-    add-wide
-    shared-slice-read-wide-2
-    wide-requires-2
-    mul-result
-    add-result
-    add-wide-2
-    shared-slice-read-wide-3
-    wide-requires-3
-    mul-result-2
-    add-result-2
-    add-wide-3
-    shared-slice-read-wide-4
-    wide-requires-4
-    mul-result-3
-    add-result-3
+    shared-slice-read-little-endian
+    add-little-endian
+    shared-slice-read-little-endian-2
+    add-little-endian-2
+    shared-slice-read-little-endian-3
+    add-little-endian-3
+    shared-slice-read-little-endian-4
+    little-endian-requires
     returns)

@@ -1,7 +1,7 @@
 use native.Mathlib.Omega.{arith}
-use mathlib.Core.Path.{sym}
-use Prim.Native.Nat.{_-_, _*_, _≤_, zero-le}
-use Rattle.laws.proofs.Range.{sum-none}
+use native.Mathlib.Nat.{mul-le-mul-left}
+use mathlib.Core.Path.{_≡_, ap}
+use Prim.Native.Nat.{ℕ, _+_, _-_, _*_, _≤_, zero-le}
 use Rattle.hours.specs.Series.{powerIn}
 use Rattle.hours.specs.Sums.{K4Before}
 use Rattle.hours.proofs.Standing.{fewer}
@@ -10,24 +10,30 @@ use Rattle.hours.proofs.k4.through_hours.Statement.{statement}
 use Rattle.hours.proofs.k4.through_hours.Tie as tie
 
 abbrev Inv-loop : tie.InvT-loop
-Inv-loop part working possible days summed k₀ q₀ k q = K4Before (powerIn part working) (powerIn part possible) (summed .0) (6 * q) k × (q ≤ 4 * days)
+Inv-loop part working possible from turns turn summed sums₀ q₀ sums q = K4Before (powerIn part working) (powerIn part possible) (summed .0) (from + turn * q) sums × (q ≤ turns)
 
 abbrev μ-loop : tie.MeasureT-loop
-μ-loop part working possible days summed k₀ q₀ k q = 4 * days - q
+μ-loop part working possible from turns turn summed sums₀ q₀ sums q = turns - q
 
 loop-holds : tie.Need-loop-holds Inv-loop μ-loop
-loop-holds c = ((sym (sum-none _), sym (sum-none _), zero-le, zero-le), zero-le)
+loop-holds c = (k4-same _ _ _ (omega arith) (c .before .pre .1), zero-le)
 
-mul-loop : tie.Need-mul-loop Inv-loop μ-loop
-mul-loop c = omega arith
+-- The hours up to the end of a turn are among all.
+within : (c : tie.In-loop Inv-loop μ-loop) → (let s = c .before .before .before in s .args .from + s .args .turn * c .before .loop .q + s .args .turn ≤ s .args .from + s .args .turn * s .args .turns)
+within c =
+    let less : c .before .loop .q + 1 ≤ c .before .before .before .args .turns = omega arith in
+    omega (arith, mul-le-mul-left (c .before .before .before .args .turn) less)
 
-mul-with-six : tie.Need-mul-with-six Inv-loop μ-loop
-mul-with-six c = omega arith
+mul-with-hours : tie.Need-mul-with-hours Inv-loop μ-loop
+mul-with-hours c = omega (arith, within c)
 
-with-six-requires : tie.Need-with-six-requires Inv-loop μ-loop
-with-six-requires c κs =
+add-with-hours : tie.Need-add-with-hours Inv-loop μ-loop
+add-with-hours c = omega (arith, within c)
+
+with-hours-requires : tie.Need-with-hours-requires Inv-loop μ-loop
+with-hours-requires c κs =
     let s = c .before .before .before in (
-      (fewer (s .args .part .now) (s .args .working) (omega arith) (s .pre .0), fewer (s .args .part .now) (s .args .possible) (omega arith) (s .pre .1), omega arith),
+      (fewer (s .args .part .now) (s .args .working) (within c) (s .pre .0 .0), fewer (s .args .part .now) (s .args .possible) (within c) (s .pre .0 .1), omega (arith, within c)),
       c .before .loop .inv .0,
     )
 
@@ -38,10 +44,13 @@ loop-less : tie.Need-loop-less Inv-loop μ-loop
 loop-less c = omega arith
 
 loop-again : tie.Need-loop-again Inv-loop μ-loop
-loop-again c = (k4-same _ _ _ (omega arith) (c .with-six .ensures), omega arith)
+loop-again c = (k4-same _ _ _ (omega arith) (c .with-hours .ensures), omega arith)
 
 returns : tie.Need-returns Inv-loop μ-loop
-returns c = k4-same _ _ _ (omega arith) (c .before .loop .inv .0)
+returns c =
+    let a = c .before .before .before .args in
+    let all : c .before .loop .q ≡ a .turns = omega arith in
+    k4-same _ _ _ (ap (λ (q : ℕ). a .from + a .turn * q) all) (c .before .loop .inv .0)
 
 pub through-hours-spec : {M : Type 1} → statement M
 through-hours-spec =
@@ -50,9 +59,9 @@ through-hours-spec =
     Inv-loop
     μ-loop
     loop-holds
-    mul-loop
-    mul-with-six
-    with-six-requires
+    mul-with-hours
+    add-with-hours
+    with-hours-requires
     add-q
     loop-less
     loop-again
