@@ -1,5 +1,5 @@
-// k4's sums over days of low powers: those below 65,536, as producers' powers are, whose first two bytes are 0. Their powers stand one after the
-// other and are taken as they stand in the machine's words, so that one instruction serves four hours.
+// k4's sums over days of low powers, those below 65,536, whose first two bytes are 0. The powers stand one after the other and are taken as
+// they stand in the machine's words, so that one instruction serves four hours.
 ghost use mathlib.Core.Path.{_≡_};
 ghost use Prim.Native.Nat.{_+_, _*_, _<_, _≤_, min};
 ghost use lib.ListN.{length, getD};

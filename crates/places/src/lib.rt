@@ -30,7 +30,7 @@ pub fn hours_width(h: Header) -> usize
 }
 
 // Whether a producer's hours stand by column.
-pub fn by_column(layout: Layout) -> bool
+fn by_column(layout: Layout) -> bool
     ensures { λ r. ⌜ r ≡ byColumn layout ⌝ }
 {
     2 < layout.version
