@@ -123,7 +123,8 @@ series start step = record { start = start; step = step }
 abbrev pub triples : HourSeries
 triples = record { working = series 0 12; possible = series 4 12; outside = series 8 12 }
 
--- By column: all working powers, then all possible ones, then all outside uses, each from hour 0 of day 1 on. [Requests, 7]
+-- By column: the working powers of all hours, behind them the possible ones, behind these the outside uses, hour 0 of day 1 first in each.
+-- [Requests, 7]
 abbrev pub columns : Header → HourSeries
 columns h = record { working = series 0 4; possible = series (96 * h .days) 4; outside = series (192 * h .days) 4 }
 
