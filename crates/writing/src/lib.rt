@@ -1,7 +1,7 @@
 // Big-endian fields, written at the front of a lent part.
 ghost use mathlib.Core.Path.{_≡_};
 ghost use Rattle.rules.specs.Fields.{bytesOf};
-ghost use Rattle.writing.specs.Placed.{placed};
+ghost use Rattle.writing.specs.Placed.{placed, lowestFirst};
 
 // A byte at the front of a lent part, if the part has room; its other bytes stay.
 pub fn put_byte(part: &mut [u8], v: u8)
@@ -13,6 +13,18 @@ pub fn put_byte(part: &mut [u8], v: u8)
     part[0] = v;
 }
 
+// The last four bytes of a number, turned: as bytes of the answer the first of them is the lowest, so that the compiler makes one store of
+// all four.
+fn turned(v: u64) -> u32
+    ensures { λ r. ⌜ lowestFirst r ≡ bytesOf 4 v ⌝ }
+{
+    let a = (v / 16777216 % 256) as u32;
+    let b = (v / 65536 % 256) as u32;
+    let c = (v / 256 % 256) as u32;
+    let d = (v % 256) as u32;
+    a + b * 256 + c * 65536 + d * 16777216
+}
+
 // The last four bytes of a number at the front of a lent part, if the part has room; its other bytes stay.
 pub fn put_word(part: &mut [u8], v: u64)
     ensures { λ _. ⌜ now (part .exit) ≡ placed (bytesOf 4 v) (now (part .entry)) ⌝ }
@@ -20,35 +32,20 @@ pub fn put_word(part: &mut [u8], v: u64)
     if part.len() < 4 {
         return;
     }
-    let a = v / 256;
-    let b = a / 256;
-    let c = b / 256;
-    part[0] = (c % 256) as u8;
-    part[1] = (b % 256) as u8;
-    part[2] = (a % 256) as u8;
-    part[3] = (v % 256) as u8;
+    let w = turned(v);
+    part[0] = (w % 256) as u8;
+    part[1] = (w / 256 % 256) as u8;
+    part[2] = (w / 65536 % 256) as u8;
+    part[3] = (w / 16777216) as u8;
 }
 
-// Eight bytes at the front of a lent part, if the part has room; its other bytes stay.
+// Eight bytes at the front of a lent part, if the part has room; its other bytes stay. By halves of four bytes.
 pub fn put_long(part: &mut [u8], v: u64)
     ensures { λ _. ⌜ now (part .exit) ≡ placed (bytesOf 8 v) (now (part .entry)) ⌝ }
 {
     if part.len() < 8 {
         return;
     }
-    let a = v / 256;
-    let b = a / 256;
-    let c = b / 256;
-    let d = c / 256;
-    let e = d / 256;
-    let f = e / 256;
-    let g = f / 256;
-    part[0] = (g % 256) as u8;
-    part[1] = (f % 256) as u8;
-    part[2] = (e % 256) as u8;
-    part[3] = (d % 256) as u8;
-    part[4] = (c % 256) as u8;
-    part[5] = (b % 256) as u8;
-    part[6] = (a % 256) as u8;
-    part[7] = (v % 256) as u8;
+    put_word(part, v / 4294967296);
+    put_word(&mut part[4..], v);
 }

@@ -1,9 +1,11 @@
 use native.Mathlib.Omega.{arith}
 use Rattle.rules.specs.Fields.{bytesOf, over}
-use lib.Seq.{sets-eq}
-use Rattle.writing.proofs.Placing.{field-not, field-over}
-use lib.ListN.{length-set}
-use mathlib.Core.Path.{_∙_, sym}
+use Rattle.writing.proofs.Placing.{field-not, field-over, bytes-joined}
+use Rattle.writing.proofs.Lent.{then-placed}
+use mathlib.Core.Path.{_∙_, sym, ap}
+use mathlib.Core.List.{List}
+use Prim.Native.Nat.{ℕ, _/_}
+use Rattle.laws.proofs.Fields.{length-bytesOf}
 use borrow.Author.Needs.{needs}
 use Rattle.writing.proofs.put_long.Statement.{statement}
 use Rattle.writing.proofs.put_long.Tie as tie
@@ -11,83 +13,45 @@ use Rattle.writing.proofs.put_long.Tie as tie
 returns : tie.Need-returns
 returns c = sym (field-not 8 _ _ (c .if1 .taken))
 
-cast-part : tie.Need-cast-part
-cast-part c = search needs
+put-word-requires : tie.Need-put-word-requires
+put-word-requires c κs = search needs
 
-slice-write-part : tie.Need-slice-write-part
-slice-write-part c = search needs
+sub-put-word : tie.Need-sub-put-word
+sub-put-word c = search needs
 
-cast-part-2 : tie.Need-cast-part-2
-cast-part-2 c = search needs
+part-put-word-start : tie.Need-part-put-word-start
+part-put-word-start c = search needs
 
-slice-write-part-2 : tie.Need-slice-write-part-2
-slice-write-part-2 c = simp length-set (omega arith)
+part-put-word-end : tie.Need-part-put-word-end
+part-put-word-end c = search needs
 
-cast-part-3 : tie.Need-cast-part-3
-cast-part-3 c = search needs
-
-slice-write-part-3 : tie.Need-slice-write-part-3
-slice-write-part-3 c = simp length-set (omega arith)
-
-cast-part-4 : tie.Need-cast-part-4
-cast-part-4 c = search needs
-
-slice-write-part-4 : tie.Need-slice-write-part-4
-slice-write-part-4 c = simp length-set (omega arith)
-
-cast-part-5 : tie.Need-cast-part-5
-cast-part-5 c = search needs
-
-slice-write-part-5 : tie.Need-slice-write-part-5
-slice-write-part-5 c = simp length-set (omega arith)
-
-cast-part-6 : tie.Need-cast-part-6
-cast-part-6 c = search needs
-
-slice-write-part-6 : tie.Need-slice-write-part-6
-slice-write-part-6 c = simp length-set (omega arith)
-
-cast-part-7 : tie.Need-cast-part-7
-cast-part-7 c = search needs
-
-slice-write-part-7 : tie.Need-slice-write-part-7
-slice-write-part-7 c = simp length-set (omega arith)
-
-cast-part-8 : tie.Need-cast-part-8
-cast-part-8 c = search needs
-
-slice-write-part-8 : tie.Need-slice-write-part-8
-slice-write-part-8 c = simp length-set (omega arith)
+put-word-requires-2 : tie.Need-put-word-requires-2
+put-word-requires-2 c κs = search needs
 
 same-length : tie.Need-same-length
-same-length c = simp length-set
+same-length c = search needs
 
 returns-2 : tie.Need-returns-2
-unfolding bytesOf over
 returns-2 c =
-    sets-eq (bytesOf 8 (c .before .args .v)) (c .before .args .part .now) 0 (c .if1 .left)
-    ∙ sym (field-over 8 (c .before .args .v) (c .before .args .part .now) (c .if1 .left))
+    let a = c .before .before .before .before .before .before .before .before .before .before in
+    let l = a .args .part .now in
+    let v = a .args .v in
+    let room = c .before .before .before .before .before .before .before .before .if1 .left in
+    then-placed 4 (bytesOf 4 (v / 4294967296)) (bytesOf 4 v) l (length-bytesOf 4 _) (rw length-bytesOf room)
+    (c .before .before .before .before .before .before .put-word .ensures ∙ field-over 4 _ l (omega (arith, room)))
+    (c .before .before .put-word2 .ensures)
+    ∙ ap (λ (p : List ℕ). over p l) (sym (bytes-joined 4 4 v))
+    ∙ sym (field-over 8 v l room)
 
 pub put-long-spec : {M : Type 1} → statement M
 put-long-spec =
     tie.close
     (tie.spec
     returns
-    cast-part
-    slice-write-part
-    cast-part-2
-    slice-write-part-2
-    cast-part-3
-    slice-write-part-3
-    cast-part-4
-    slice-write-part-4
-    cast-part-5
-    slice-write-part-5
-    cast-part-6
-    slice-write-part-6
-    cast-part-7
-    slice-write-part-7
-    cast-part-8
-    slice-write-part-8
+    put-word-requires
+    sub-put-word
+    part-put-word-start
+    part-put-word-end
+    put-word-requires-2
     same-length
     returns-2)
