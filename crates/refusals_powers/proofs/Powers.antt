@@ -10,23 +10,23 @@ use Rattle.rules.specs.Fields.{bigEndian}
 use Rattle.rules.specs.Refusals.{tooHigh}
 use Rattle.laws.proofs.Range.{any-append, any-same}
 use Rattle.laws.proofs.Fields.{read-part}
-use Rattle.refusals_powers.specs.Powers.{highPower, highPowers, highFrom}
+use Rattle.refusals_powers.specs.Powers.{someFrom, highPowers, highFrom}
 
 -- The test of a power whose place has two names.
-there : (s : List ℕ) {a b : ℕ} → a ≡ b → tooHigh (bigEndian 4 s a) ≡ tooHigh (bigEndian 4 s b)
-there s e = ap (λ (at : ℕ). tooHigh (bigEndian 4 s at)) e
+there : (test : ℕ → Bool) (s : List ℕ) {a b : ℕ} → a ≡ b → test (bigEndian 4 s a) ≡ test (bigEndian 4 s b)
+there test s e = ap (λ (at : ℕ). test (bigEndian 4 s at)) e
 
--- The first k powers and the n after them.
-pub powers-more : (s : List ℕ) (k n at m : ℕ) {found t : Bool} → at ≡ 4 * k → k + n ≡ m → found ≡ any (highPower s) k → t ≡ highFrom s at n
-    → (found || t) ≡ any (highPower s) m
-powers-more s k n at m e q x y =
-    let same : highFrom s at n ≡ any (λ i. highPower s (k + i)) n = any-same _ _ n (λ i l. there s (omega arith)) in
-    rw (x, y, same, ← q) (sym (any-append (highPower s) k n))
+-- Some of the first k powers and the n after them passes a test.
+pub powers-more : (test : ℕ → Bool) (s : List ℕ) (k n at m : ℕ) {found t : Bool} → at ≡ 4 * k → k + n ≡ m
+    → found ≡ any (λ i. test (bigEndian 4 s (4 * i))) k → t ≡ someFrom test s at n → (found || t) ≡ any (λ i. test (bigEndian 4 s (4 * i))) m
+powers-more test s k n at m e q x y =
+    let same : someFrom test s at n ≡ any (λ i. test (bigEndian 4 s (4 * (k + i)))) n = any-same _ _ n (λ i l. there test s (omega arith)) in
+    rw (x, y, same, ← q) (sym (any-append (λ i. test (bigEndian 4 s (4 * i))) k n))
 
 -- All powers of a part, from its beginning on.
 pub from-start : (s : List ℕ) → highFrom s 0 (length s / 4) ≡ highPowers s
 unfolding highPowers
-from-start s = any-same _ _ (length s / 4) (λ i l. there s (omega arith))
+from-start s = any-same _ _ (length s / 4) (λ i l. there tooHigh s (omega arith))
 
 -- The powers of the n bytes from a place on.
 pub part-high : (s : List ℕ) (at n count : ℕ) → n ≡ 4 * count → at + n ≤ length s → highPowers (take n (drop at s)) ≡ highFrom s at count

@@ -19,10 +19,10 @@ or-some (suc a) b =
     lt-ltb 0 (bitOr (suc a) b) (omega (arith, or-add-and (suc a) b, and-le-r (suc a) b))
     ∙ ap (λ (t : Bool). t || ltb 0 b) (sym (lt-ltb 0 (suc a) (omega arith)))
 
-last-some : (a b k : ℕ) → ltb 0 (bitOr a b % 2 ^ k) ≡ (ltb 0 (a % 2 ^ k) || ltb 0 (b % 2 ^ k))
+pub last-some : (a b k : ℕ) → ltb 0 (bitOr a b % 2 ^ k) ≡ (ltb 0 (a % 2 ^ k) || ltb 0 (b % 2 ^ k))
 last-some a b k = ap (ltb 0) (or-mod a b k) ∙ or-some (a % 2 ^ k) (b % 2 ^ k)
 
-inner-some : (a b j k : ℕ) → ltb 0 (bitOr a b / 2 ^ j % 2 ^ k) ≡ (ltb 0 (a / 2 ^ j % 2 ^ k) || ltb 0 (b / 2 ^ j % 2 ^ k))
+pub inner-some : (a b j k : ℕ) → ltb 0 (bitOr a b / 2 ^ j % 2 ^ k) ≡ (ltb 0 (a / 2 ^ j % 2 ^ k) || ltb 0 (b / 2 ^ j % 2 ^ k))
 inner-some a b j k = ap (λ (n : ℕ). ltb 0 (n % 2 ^ k)) (or-shr a b j) ∙ last-some (a / 2 ^ j) (b / 2 ^ j) k
 
 or-three : (p q r s x y : Bool) → ((p || q) || ((r || s) || (x || y))) ≡ ((p || (r || x)) || (q || (s || y)))
@@ -88,7 +88,7 @@ module _ (x w : ℕ) (t : Turned x w) where
   odd-of : w % 16777216 / 256 % 2 ≡ t .second % 2
   odd-of = rw front-of (omega arith)
 
-  end-of : w % 65536 ≡ t .first + t .second * 256
+  pub end-of : w % 65536 ≡ t .first + t .second * 256
   end-of = omega arith
 
   pub low-told : w % 65536 ≡ 0 → tooHigh x ≡ false

@@ -3,12 +3,13 @@
 // passed while each of its powers has two zero bytes at the front. From the first other block on every power leaves its marks, and the marks of all are tested once.
 ghost use mathlib.Core.Path.{_≡_};
 ghost use mathlib.Core.Bool.{false, _||_};
-ghost use Prim.Native.Nat.{_+_, _*_, _/_, _%_, _^_, _<_, _≤_};
+ghost use Prim.Native.Nat.{_+_, _-_, _*_, _/_, _%_, _^_, _<_, _≤_};
 ghost use lib.ListN.{length};
 ghost use Rattle.rules.specs.Range.{any};
 ghost use Rattle.rules.specs.Fields.{bigEndian};
 ghost use Rattle.rules.specs.Refusals.{tooHigh};
-ghost use Rattle.refusals_powers.specs.Powers.{highPower, highPowers, highFrom};
+ghost use Rattle.refusals_powers.specs.Powers.{highPower, highPowers, highFrom, powerTests};
+ghost use Rattle.refusals_powers.specs.Fours.{front, wide, Seen, Fronted};
 ghost use Rattle.refusals_powers.specs.Marks.{marked, Turned};
 use fields::little_endian;
 use fields::word;
@@ -89,18 +90,128 @@ fn marks_on(s: &[u8], at: usize, count: usize) -> Marks
     m
 }
 
-// How many blocks, from the first on, have two zero bytes at the front of every power.
-fn low_blocks(part: &[u8]) -> usize
-    ensures { λ r. ⌜ (r ≤ length (now (part .entry)) / 288) × (any (highPower (now (part .entry))) (72 * r) ≡ false) ⌝ }
+// The bits of powers, joined: of the first, the second, the third and the last of each four, so that one instruction joins four powers.
+struct Four {
+    first: u32,
+    second: u32,
+    third: u32,
+    last: u32,
+}
+
+// The bits of four powers from a place on.
+fn four_at(s: &[u8], at: usize) -> Four
+    requires { ⌜ at + 16 ≤ length (now s) ⌝ }
+    ensures { λ r. ⌜ Seen r (now (s .entry)) at 4 ⌝ }
 {
-    let mut b: usize = 0;
-    while b < part.len() / 288 {
-        if 0 < bits_on(part, 288 * b, 72) % 65536 {
-            return b;
-        }
+    Four {
+        first: turned(s, at),
+        second: turned(s, at + 4),
+        third: turned(s, at + 8),
+        last: turned(s, at + 12),
+    }
+}
+
+fn both(x: Four, y: Four) -> Four
+    ensures { λ r. ⌜ (front r ≡ (front x || front y)) × (wide r ≡ (wide x || wide y)) ⌝ }
+{
+    Four {
+        first: x.first | y.first,
+        second: x.second | y.second,
+        third: x.third | y.third,
+        last: x.last | y.last,
+    }
+}
+
+// Those of so many times four powers from a place on.
+fn fours_on(s: &[u8], at: usize, count: usize) -> Four
+    requires { ⌜ at + 16 * count ≤ length (now s) ⌝ }
+    ensures { λ r. ⌜ Seen r (now (s .entry)) at (4 * count) ⌝ }
+{
+    let mut seen = Four {
+        first: 0,
+        second: 0,
+        third: 0,
+        last: 0,
+    };
+    let mut i: usize = 0;
+    while i < count {
+        seen = both(seen, four_at(s, at + 16 * i));
+        i += 1;
+    }
+    seen
+}
+
+// Those of the blocks from one up to another.
+fn blocks_on(part: &[u8], from: usize, to: usize) -> Four
+    requires { ⌜ (from ≤ to) × (to ≤ length (now part) / 288) ⌝ }
+    ensures { λ r. ⌜ Seen r (now (part .entry)) (288 * from) (72 * (to - from)) ⌝ }
+{
+    let mut seen = Four {
+        first: 0,
+        second: 0,
+        third: 0,
+        last: 0,
+    };
+    let mut b = from;
+    while b < to {
+        seen = both(seen, fours_on(part, 288 * b, 18));
         b += 1;
     }
-    b
+    seen
+}
+
+// Four powers have a bit in their two front bytes: one of them is not below 65,536.
+fn has_front(x: Four) -> bool
+    ensures { λ r. ⌜ r ≡ front x ⌝ }
+{
+    0 < ((x.first | x.second) | (x.third | x.last)) % 65536
+}
+
+// One of them is not below 32,768.
+fn has_wide(x: Four) -> bool
+    ensures { λ r. ⌜ r ≡ wide x ⌝ }
+{
+    let bits = (x.first | x.second) | (x.third | x.last);
+    (0 < bits % 65536) | (0 < bits / 8388608 % 2)
+}
+
+// The block that the blocks tried together go up to: the first alone, then five times as many as before them.
+fn tried_to(b: usize, blocks: usize) -> usize
+    requires { ⌜ (b < blocks) × (blocks < 2 ^ 60) ⌝ }
+    ensures { λ r. ⌜ (b < r) × (r ≤ blocks) ⌝ }
+{
+    if 5 * b + 1 < blocks {
+        5 * b + 1
+    } else {
+        blocks
+    }
+}
+
+// The blocks from the first on in which no power has a bit in its two front bytes, and whether each of their powers is below 32,768.
+struct Front {
+    blocks: usize,
+    low: bool,
+}
+
+fn low_blocks(part: &[u8]) -> Front
+    ensures { λ r. ⌜ Fronted (now (part .entry)) r ⌝ }
+{
+    let blocks = part.len() / 288;
+    let mut low = true;
+    let mut b: usize = 0;
+    while b < blocks {
+        let end = tried_to(b, blocks);
+        let seen = blocks_on(part, b, end);
+        if has_front(seen) {
+            return Front {
+                blocks: b,
+                low: false,
+            };
+        }
+        low = low & !has_wide(seen);
+        b = end;
+    }
+    Front { blocks: b, low }
 }
 
 // 9, of all whole blocks, where those before the first are low.
@@ -131,13 +242,31 @@ fn one_by_one(s: &[u8], at: usize, count: usize) -> bool
     found
 }
 
-// 9, of the powers of a part, whatever they are and in whatever order.
+// What is to be known of a part's powers before they are summed: some is above the ceiling, which is number 9; the part has whole blocks
+// of powers below 32,768.
+pub struct PowerTests {
+    pub high: bool,
+    pub low: bool,
+}
+
+// Of the powers of a part, whatever they are and in whatever order.
+pub fn power_tests(part: &[u8]) -> PowerTests
+    ensures { λ r. ⌜ r ≡ powerTests (now (part .entry)) ⌝ }
+{
+    let blocks = part.len() / 288;
+    let front = low_blocks(part);
+    let high = high_blocks(part, front.blocks)
+        | one_by_one(part, 288 * blocks, part.len() / 4 - 72 * blocks);
+    let low = (part.len() % 288 == 0) & front.low;
+    PowerTests { high, low }
+}
+
+// 9, of the powers of a part.
 pub fn high_powers(part: &[u8]) -> bool
     ensures { λ r. ⌜ r ≡ highPowers (now (part .entry)) ⌝ }
 {
-    let blocks = part.len() / 288;
-    high_blocks(part, low_blocks(part))
-        | one_by_one(part, 288 * blocks, part.len() / 4 - 72 * blocks)
+    let x = power_tests(part);
+    x.high
 }
 
 // The same of a part that is tried by itself, as a record is: all of its powers are one block. It is a function of its own, so that each of
