@@ -20,6 +20,10 @@ use Rattle.hours.specs.Control.{controlOf}
 pub k4-same : (working possible : ℕ → ℕ) (S : ℕ) {k : K4} {m n : ℕ} → m ≡ n → K4Before working possible S m k → K4Before working possible S n k
 k4-same working possible S e x = rw (sym e) x
 
+-- So with S.
+pub k4-for : (working possible : ℕ → ℕ) (n : ℕ) {S S′ : ℕ} {k : K4} → S ≡ S′ → K4Before working possible S n k → K4Before working possible S′ n k
+k4-for working possible n e x = rw (sym e) x
+
 -- No hours have no sums.
 pub none-summed : (working possible : ℕ → ℕ) (S : ℕ) → K4Before working possible S 0 (record { asked = tenths 0; met = tenths 0 })
 none-summed working possible S = (sym (sum-none _), sym (sum-none _), zero-le, zero-le)

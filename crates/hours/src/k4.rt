@@ -1,10 +1,12 @@
 // k4's sums over the hours.
 ghost use mathlib.Core.Path.{_≡_};
+ghost use mathlib.Core.Bool.{true};
 ghost use Prim.Native.Nat.{_+_, _*_, _<_, _≤_};
 ghost use Rattle.rules.specs.Sheet.{series};
 ghost use Rattle.hours.specs.Series.{Stands, powerIn};
 ghost use Rattle.hours.specs.Sums.{K4Before, k4In};
-use crate::low::low_days;
+ghost use Rattle.hours.specs.Low.{LowPart, lowMonth};
+use crate::low::low_sums;
 use crate::series::power;
 use crate::series::stands;
 use rules::Series;
@@ -99,14 +101,15 @@ fn by_hour(part: &[u8], working: u16, possible: u16, days: u8, summed: Tenths) -
     through_hours(none, part, w, p, 0, 4 * (days as usize), 6, summed)
 }
 
-// The same by column: the low days first, and the days after them as any others.
-fn by_column(part: &[u8], working: u16, possible: u16, days: u8, summed: Tenths) -> K4
+// The same by column, whatever the powers are.
+fn any_column(part: &[u8], working: u16, possible: u16, days: u8, summed: Tenths) -> K4
     requires { ⌜ Stands (now part) (series working 4) (24 * days) × Stands (now part) (series possible 4) (24 * days) ⌝ }
     ensures { λ r. ⌜ K4Before (powerIn (now (part .entry)) (series working 4)) (powerIn (now (part .entry)) (series possible 4)) (summed .0) (24 * days) r ⌝ }
 {
-    let first = low_days(part, working, possible, days, summed);
-    let day = first.days;
-    let sums = first.sums;
+    let none = K4 {
+        asked: Tenths(0),
+        met: Tenths(0),
+    };
     let w = Series {
         start: working,
         step: 4,
@@ -115,20 +118,54 @@ fn by_column(part: &[u8], working: u16, possible: u16, days: u8, summed: Tenths)
         start: possible,
         step: 4,
     };
-    through_hours(
-        sums,
-        part,
-        w,
-        p,
-        24 * day,
-        3 * ((days as usize) - day),
-        8,
-        summed,
-    )
+    through_hours(none, part, w, p, 0, 3 * (days as usize), 8, summed)
 }
 
-// k4's sums over a month of so many days, for a summed capacity S. There are none where the part ends before the powers do.
-pub fn k4_sums(part: &[u8], working: Series, possible: Series, days: u8, summed: Tenths) -> K4
+// A month by column that the sums of low powers are for, with an S below 32,768. Every column begins with a power of the part.
+fn is_low(working: u16, possible: u16, days: u8, summed: Tenths) -> bool
+    ensures { λ r. ⌜ r ≡ lowMonth working possible days (summed .0) ⌝ }
+{
+    (working % 4 == 0)
+        & ((possible % 4 == 0) & ((22 <= days) & ((days <= 31) & (summed.0 < 32768))))
+}
+
+// The same by column, where it may be known that every power of the part is low.
+fn by_column(
+    part: &[u8],
+    working: u16,
+    possible: u16,
+    days: u8,
+    summed: Tenths,
+    low: bool,
+) -> K4
+    requires { ⌜ Stands (now part) (series working 4) (24 * days) × Stands (now part) (series possible 4) (24 * days) ⌝ }
+    requires { ⌜ (low ≡ true → LowPart (now part)) ⌝ }
+    ensures { λ r. ⌜ K4Before (powerIn (now (part .entry)) (series working 4)) (powerIn (now (part .entry)) (series possible 4)) (summed .0) (24 * days) r ⌝ }
+{
+    if low & is_low(working, possible, days, summed) {
+        let least = (summed.0 % 32768) as u16;
+        return low_sums(
+            part,
+            working as usize,
+            possible as usize,
+            days as usize,
+            least,
+        );
+    }
+    any_column(part, working, possible, days, summed)
+}
+
+// k4's sums over a month of so many days, for a summed capacity S. There are none where the part ends before the powers do. It may be known
+// that every power of the part is low.
+pub(crate) fn k4_sums(
+    part: &[u8],
+    working: Series,
+    possible: Series,
+    days: u8,
+    summed: Tenths,
+    low: bool,
+) -> K4
+    requires { ⌜ (low ≡ true → LowPart (now part)) ⌝ }
     ensures { λ r. ⌜ r ≡ k4In (now (part .entry)) working possible days (summed .0) ⌝ }
     ensures fits { λ r. ⌜ (r .asked .0 ≤ mostWord * (24 * days)) × (r .met .0 ≤ mostWord * (24 * days)) ⌝ }
 {
@@ -141,7 +178,7 @@ pub fn k4_sums(part: &[u8], working: Series, possible: Series, days: u8, summed:
         return none;
     }
     if (working.step == 4) & (possible.step == 4) {
-        return by_column(part, working.start, possible.start, days, summed);
+        return by_column(part, working.start, possible.start, days, summed, low);
     }
     if (working.step == 12) & (possible.step == 12) {
         return by_hour(part, working.start, possible.start, days, summed);

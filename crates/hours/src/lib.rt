@@ -7,5 +7,4 @@ mod series;
 pub use control::average_to_hundredth;
 pub use control::average_to_tenth;
 pub use k4::K4;
-pub use k4::k4_sums;
 pub use series::Hourly;

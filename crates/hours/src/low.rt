@@ -1,162 +1,167 @@
-// k4's sums over days of low powers, those below 65,536, whose first two bytes are 0. The powers stand one after the other and are taken as
-// they stand in the machine's words, so that one instruction serves four hours.
+// k4's sums over a month by column whose powers are all low, below 32,768, so that their first two bytes are 0. The last two bytes of hour i and the
+// first two of the hour half a month later are read as 16 bits and joined, then the first two of hour i + 1 and the last two of the other, and so on: each
+// time the power of one of the two hours. One instruction serves eight hours.
 ghost use mathlib.Core.Path.{_≡_};
-ghost use Prim.Native.Nat.{_+_, _*_, _<_, _≤_, min};
+ghost use Prim.Native.Nat.{_+_, _*_, _/_, _%_, _<_, _≤_, min};
 ghost use lib.ListN.{length, getD};
 ghost use Rattle.rules.specs.Fields.{bigEndian};
 ghost use Rattle.rules.specs.Sheet.{series};
 ghost use Rattle.hours.specs.Series.{powerIn};
 ghost use Rattle.hours.specs.Sums.{K4Before};
-ghost use Rattle.hours.specs.Low.{Word, Clear, LowAt, LowMore, LowBefore};
+ghost use Rattle.hours.specs.Low.{Zero, hourAt, LowHours, HalvesMore, HalvesBefore, Whole, K4More};
 use crate::k4::K4;
-use fields::little_endian;
 use units::Tenths;
 
-// Over hours that may be low: m, and what was met of it, if they are; and words in which a power that is not low leaves a bit, joined.
-struct Low {
-    asked: u32,
-    met: u32,
-    bits: u32,
+// A sum, as what is left of it where it begins again at 0 past 65,535, and the sum of the upper bytes of what was added.
+struct Kept {
+    left: u16,
+    upper: u16,
 }
 
-// The four bytes from a place on, as one word.
-fn word_at(s: &[u8], at: usize) -> u32
-    requires { ⌜ at + 4 ≤ length (now s) ⌝ }
-    ensures { λ r. ⌜ Word (getD (now (s .entry)) at 0) (getD (now (s .entry)) (at + 1) 0) (getD (now (s .entry)) (at + 2) 0) (getD (now (s .entry)) (at + 3) 0) r ⌝ }
+// Over some hours: the sums of m and of what was met of it.
+struct Halves {
+    asked: Kept,
+    met: Kept,
+}
+
+fn wide(b: u8) -> u16
+    ensures { λ r. ⌜ (r ≡ b) × (r ≤ 255) ⌝ }
 {
-    little_endian(s[at], s[at + 1], s[at + 2], s[at + 3])
+    b as u16
 }
 
-// The power at a place, if it is low and the byte after it is 0: from its second byte on, its third is second in the word; from its last on, its
-// last is first.
-fn low_power(s: &[u8], at: usize) -> u32
-    requires { ⌜ at + 7 ≤ length (now s) ⌝ }
-    ensures { λ r. ⌜ (r ≤ 65535) × (LowAt (now (s .entry)) at → r ≡ bigEndian 4 (now (s .entry)) at) ⌝ }
+// Two bytes, the first lowest.
+fn pair(s: &[u8], at: usize) -> u16
+    requires { ⌜ at + 2 ≤ length (now s) ⌝ }
+    ensures { λ r. ⌜ (r ≡ getD (now (s .entry)) at 0 + getD (now (s .entry)) (at + 1) 0 * 256) × (getD (now (s .entry)) at 0 ≤ 255) × (getD (now (s .entry)) (at + 1) 0 ≤ 255) ⌝ }
 {
-    (word_at(s, at + 1) | word_at(s, at + 3)) % 65536
+    wide(s[at]) + wide(s[at + 1]) * 256
 }
 
-fn smaller(a: u32, b: u32) -> u32
+// The number in the two bytes at the one place or at the other, where the bytes at the other are 0.
+fn either(s: &[u8], one: usize, other: usize) -> u16
+    requires { ⌜ (one + 2 ≤ length (now s)) × (other + 2 ≤ length (now s)) ⌝ }
+    ensures { λ r. ⌜ (Zero (now (s .entry)) other → r ≡ bigEndian 2 (now (s .entry)) one) × (Zero (now (s .entry)) one → r ≡ bigEndian 2 (now (s .entry)) other) ⌝ }
+{
+    let x = pair(s, one) | pair(s, other);
+    x % 256 * 256 + x / 256
+}
+
+// The k-th low power of a column of two halves, in the order in which they are joined.
+fn low_power(s: &[u8], start: usize, half: usize, k: usize) -> u16
+    requires { ⌜ LowHours (now s) start half × (k < 2 * half) ⌝ }
+    ensures { λ r. ⌜ (r ≡ powerIn (now (s .entry)) (series start 4) (hourAt half k)) × (r ≤ 32767) ⌝ }
+{
+    either(s, start + 2 + 2 * k, start + 4 * half + 2 * k)
+}
+
+// Compared with a sign, for which the machine has an instruction.
+fn smaller(a: u16, b: u16) -> u16
+    requires { ⌜ (a ≤ 32767) × (b ≤ 32767) ⌝ }
     ensures { λ r. ⌜ r ≡ min a b ⌝ }
 {
-    if a < b { a } else { b }
+    let x = a as i16;
+    let y = b as i16;
+    if x < y { a } else { b }
 }
 
-// The same with the hour whose powers are at two places.
-fn with_low_hour(k: Low, part: &[u8], working: usize, possible: usize, summed: u32) -> Low
-    requires { ⌜ (working + 7 ≤ length (now part)) × (possible + 7 ≤ length (now part)) ⌝ }
-    requires { ⌜ (k .asked ≤ 402000000) × (k .met ≤ 402000000) ⌝ }
-    ensures { λ r. ⌜ LowMore (now (part .entry)) working possible summed k r ⌝ }
+fn with_more(k: Kept, v: u16) -> Kept
+    requires { ⌜ (v ≤ 32767) × (k .upper ≤ 65000) ⌝ }
+    ensures { λ r. ⌜ (r .left ≡ (k .left + v) % 65536) × (r .upper ≡ k .upper + v / 256) ⌝ }
 {
-    let m = smaller(summed, low_power(part, possible));
-    let met = smaller(m, low_power(part, working));
-    Low {
-        asked: k.asked + m,
-        met: k.met + met,
-        bits: k.bits | (word_at(part, possible + 1) | word_at(part, working + 1)),
+    Kept {
+        left: std::num::wrapping_add_u16(k.left, v),
+        upper: k.upper + v / 256,
     }
 }
 
-// The first bytes of two powers, as the first and the last of a word.
-fn fronts(s: &[u8], working: usize, possible: usize) -> u32
-    requires { ⌜ (working < length (now s)) × (possible < length (now s)) ⌝ }
-    ensures { λ r. ⌜ Word (getD (now (s .entry)) working 0) 0 0 (getD (now (s .entry)) possible 0) r ⌝ }
+// The sums with the k-th hour.
+fn with_low(
+    sums: Halves,
+    part: &[u8],
+    working: usize,
+    possible: usize,
+    half: usize,
+    k: usize,
+    summed: u16,
+) -> Halves
+    requires { ⌜ LowHours (now part) working half × LowHours (now part) possible half × (k < 2 * half) ⌝ }
+    requires { ⌜ (summed ≤ 32767) × (sums .asked .upper ≤ 65000) × (sums .met .upper ≤ 65000) ⌝ }
+    ensures { λ r. ⌜ HalvesMore (powerIn (now (part .entry)) (series working 4)) (powerIn (now (part .entry)) (series possible 4)) summed (hourAt half k) sums r ⌝ }
 {
-    little_endian(s[working], 0, 0, s[possible])
+    let m = smaller(summed, low_power(part, possible, half, k));
+    let met = smaller(m, low_power(part, working, half, k));
+    Halves {
+        asked: with_more(sums.asked, m),
+        met: with_more(sums.met, met),
+    }
 }
 
-// Over so many hours whose powers begin at two places.
-fn low_hours(part: &[u8], working: usize, possible: usize, count: usize, summed: u32) -> Low
-    requires { ⌜ (working + 4 * count + 3 ≤ length (now part)) × (possible + 4 * count + 3 ≤ length (now part)) × (count ≤ 6120) ⌝ }
-    ensures { λ r. ⌜ LowBefore (now (part .entry)) working possible summed count r ⌝ }
+// The sums of so many hours, at most 256, in that order.
+fn low_hours(
+    part: &[u8],
+    working: usize,
+    possible: usize,
+    half: usize,
+    from: usize,
+    count: usize,
+    summed: u16,
+) -> Halves
+    requires { ⌜ LowHours (now part) working half × LowHours (now part) possible half × (from + count ≤ 2 * half) ⌝ }
+    requires { ⌜ (summed ≤ 32767) × (count ≤ 256) ⌝ }
+    ensures { λ r. ⌜ HalvesBefore (powerIn (now (part .entry)) (series working 4)) (powerIn (now (part .entry)) (series possible 4)) summed half from count r ⌝ }
 {
-    let mut k = Low {
-        asked: 0,
-        met: 0,
-        bits: fronts(part, working, possible),
+    let none = Kept { left: 0, upper: 0 };
+    let mut sums = Halves {
+        asked: none,
+        met: none,
     };
     let mut i: usize = 0;
     while i < count {
-        k = with_low_hour(k, part, working + 4 * i, possible + 4 * i, summed);
+        sums = with_low(sums, part, working, possible, half, from + i, summed);
         i += 1;
     }
-    k
+    sums
 }
 
-// The day that a block of days goes up to: as many days as there are before it, and one more.
-fn block_end(day: usize, days: usize) -> usize
-    requires { ⌜ (day < days) × (days ≤ 255) ⌝ }
-    ensures { λ r. ⌜ (day < r) × (r ≤ days) ⌝ }
+// The sum itself, where that of the lower bytes is below 65,536.
+fn whole(k: Kept) -> u64
+    ensures { λ r. ⌜ Whole (k .left) (k .upper) r ⌝ }
 {
-    if 2 * day + 1 < days {
-        2 * day + 1
-    } else {
-        days
+    let lower = std::num::wrapping_sub_u16(k.left, k.upper % 256 * 256);
+    k.upper as u64 * 256 + lower as u64
+}
+
+// k4's sums with these.
+fn with_halves(k: K4, more: Halves) -> K4
+    ensures { λ r. ⌜ K4More k more r ⌝ }
+{
+    K4 {
+        asked: k.asked.plus(Tenths(whole(more.asked))),
+        met: k.met.plus(Tenths(whole(more.met))),
     }
 }
 
-// k4's sums over the first days of a month.
-pub(crate) struct FirstDays {
-    pub(crate) sums: K4,
-    pub(crate) days: usize,
-}
-
-// Block by block, as far as powers are low.
-fn through_blocks(part: &[u8], working: u16, possible: u16, days: u8, summed: u32) -> FirstDays
-    requires { ⌜ (working + 96 * days + 3 ≤ length (now part)) × (possible + 96 * days + 3 ≤ length (now part)) ⌝ }
-    ensures { λ r. ⌜ K4Before (powerIn (now (part .entry)) (series working 4)) (powerIn (now (part .entry)) (series possible 4)) summed (24 * r .days) (r .sums)
-        × (r .days ≤ days) ⌝ }
+// k4's sums over a month: 256 hours, the next 256, and all others.
+pub(crate) fn low_sums(part: &[u8], working: usize, possible: usize, days: usize, summed: u16) -> K4
+    requires { ⌜ LowHours (now part) working (12 * days) × LowHours (now part) possible (12 * days) × (22 ≤ days) × (days ≤ 31) × (summed ≤ 32767) ⌝ }
+    ensures { λ r. ⌜ K4Before (powerIn (now (part .entry)) (series working 4)) (powerIn (now (part .entry)) (series possible 4)) summed (24 * days) r ⌝ }
 {
-    let mut sums = K4 {
+    let half = 12 * days;
+    let none = K4 {
         asked: Tenths(0),
         met: Tenths(0),
     };
-    let mut day: usize = 0;
-    while day < days as usize {
-        let end = block_end(day, days as usize);
-        let w = (working as usize) + 96 * day;
-        let p = (possible as usize) + 96 * day;
-        let k = low_hours(part, w, p, 24 * (end - day), summed);
-        if 0 < k.bits % 256 + k.bits / 16777216 {
-            return FirstDays { sums, days: day };
-        }
-        sums = K4 {
-            asked: sums.asked.plus(Tenths::stated(k.asked)),
-            met: sums.met.plus(Tenths::stated(k.met)),
-        };
-        day = end;
-    }
-    FirstDays { sums, days: day }
-}
-
-// The same; no days where S is not below 65,536, or where the part ends before the three bytes after the last power.
-pub(crate) fn low_days(
-    part: &[u8],
-    working: u16,
-    possible: u16,
-    days: u8,
-    summed: Tenths,
-) -> FirstDays
-    ensures { λ r. ⌜ K4Before (powerIn (now (part .entry)) (series working 4)) (powerIn (now (part .entry)) (series possible 4)) (summed .0) (24 * r .days) (r .sums)
-        × (r .days ≤ days) ⌝ }
-{
-    let none = FirstDays {
-        sums: K4 {
-            asked: Tenths(0),
-            met: Tenths(0),
-        },
-        days: 0,
-    };
-    let least = (summed.0 % 65536) as u32;
-    let width = 96 * (days as usize) + 3;
-    if least as u64 != summed.0 {
-        return none;
-    }
-    if part.len() < (working as usize) + width {
-        return none;
-    }
-    if part.len() < (possible as usize) + width {
-        return none;
-    }
-    through_blocks(part, working, possible, days, least)
+    let first = with_halves(
+        none,
+        low_hours(part, working, possible, half, 0, 256, summed),
+    );
+    let second = with_halves(
+        first,
+        low_hours(part, working, possible, half, 256, 256, summed),
+    );
+    with_halves(
+        second,
+        low_hours(part, working, possible, half, 512, 24 * days - 512, summed),
+    )
 }

@@ -1,37 +1,43 @@
 use native.Mathlib.Omega.{arith}
-use Rattle.hours.proofs.Turns.{k4-same}
+use native.Mathlib.Nat.{mod-eq-of-lt}
+use mathlib.Core.Path.{_≡_, sym, _∙_}
+use mathlib.Core.Bool.{true}
+use Prim.Native.Nat.{_%_, _≤_, _<_}
+use Rattle.laws.proofs.Range.{both}
+use Rattle.hours.proofs.LowPowers.{low-month, low-column}
+use Rattle.hours.proofs.Turns.{k4-for}
 use borrow.Author.Needs.{needs}
 use Rattle.hours.proofs.k4.by_column.Statement.{statement}
 use Rattle.hours.proofs.k4.by_column.Tie as tie
 
-low-days-requires : tie.Need-low-days-requires
-low-days-requires c κs = search needs
+is-low-requires : tie.Need-is-low-requires
+is-low-requires c κs = search needs
 
-mul-through-hours : tie.Need-mul-through-hours
-mul-through-hours c = search needs
+cast-least : tie.Need-cast-least
+cast-least c = search needs
 
-sub-through-hours : tie.Need-sub-through-hours
-sub-through-hours c = search needs
-
-mul-through-hours-2 : tie.Need-mul-through-hours-2
-mul-through-hours-2 c = search needs
-
-through-hours-requires : tie.Need-through-hours-requires
-through-hours-requires c κs =
-    let p = c .before .before .before .pre in
-    let few = c .before .low-days .ensures .1 in
-    ((omega (arith, p .0, few), omega (arith, p .1, few), omega (arith, few)), c .before .low-days .ensures .0)
+low-sums-requires : tie.Need-low-sums-requires
+low-sums-requires c κs =
+    let s = c .before .before .before .before in
+    let e = both (s .args .low) (c .before .before .is-low .result) (c .before .if1 .taken) in
+    let m = low-month _ _ _ _ (sym (c .before .before .is-low .ensures) ∙ e .1) in
+    let low = s .pre .1 (e .0) in
+    (low-column (s .args .part .now) _ _ low (m .0) (s .pre .0 .0), low-column (s .args .part .now) _ _ low (m .1) (s .pre .0 .1), m .2, m .3, omega arith)
 
 returns : tie.Need-returns
-returns c = k4-same _ _ _ (omega (arith, c .before .before .low-days .ensures .1)) (c .through-hours .ensures)
+returns c =
+    let s = c .before .before .before .before .before in
+    let e = both (s .args .low) (c .before .before .before .is-low .result) (c .before .before .if1 .taken) in
+    let m = low-month _ _ _ _ (sym (c .before .before .before .is-low .ensures) ∙ e .1) in
+    k4-for _ _ _ (mod-eq-of-lt (m .4)) (c .low-sums .ensures)
+
+any-column-requires : tie.Need-any-column-requires
+any-column-requires c κs = search needs
+
+returns-2 : tie.Need-returns-2
+returns-2 c = search needs
 
 pub by-column-spec : {M : Type 1} → statement M
 by-column-spec =
     tie.close
-    (tie.spec
-    low-days-requires
-    mul-through-hours
-    sub-through-hours
-    mul-through-hours-2
-    through-hours-requires
-    returns)
+    (tie.spec is-low-requires cast-least low-sums-requires returns any-column-requires returns-2)

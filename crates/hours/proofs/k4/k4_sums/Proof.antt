@@ -65,8 +65,9 @@ returns c =
 
 by-column-requires : tie.Need-by-column-requires
 by-column-requires c κs =
-    let a = c .before .before .before .before .before .before .before .args in
-    stand-apart (a .part .now) (a .working) (a .possible) (a .days) 0 (standing (c .before .before .before)) 4 (c .if2 .taken)
+    let s = c .before .before .before .before .before .before .before in
+    let a = s .args in
+    (stand-apart (a .part .now) (a .working) (a .possible) (a .days) 0 (standing (c .before .before .before)) 4 (c .if2 .taken), s .pre)
 
 returns-2 : tie.Need-returns-2
 returns-2 c = all-apart _ _ _ _ _ (standing (c .before .before .before .before)) 4 (c .before .if2 .taken) (c .by-column .ensures)
