@@ -1,10 +1,10 @@
 // The month's calendar: holidays and control days. Days are counted from 0.
 ghost use mathlib.Core.Path.{_≡_};
-ghost use Prim.Native.Nat.{_/_, _^_};
+ghost use Prim.Native.Nat.{ℕ, _/_, _^_};
 ghost use lib.Dec.{ltb};
-ghost use Rattle.rules.specs.Range.{listed};
 ghost use Rattle.rules.specs.ControlHours.{holidayOn};
 ghost use Rattle.rules.specs.ControlTable.{tableDay, inTable};
+ghost use Rattle.calendar.specs.Days.{dayOn};
 use rules::Header;
 
 pub mod table;
@@ -12,35 +12,53 @@ pub mod table;
 use table::YES;
 use table::line_of;
 
-// The day's bit of the holidays; no day past the 32 bits has one.
-pub fn holiday_on(h: Header, day: u8) -> bool
-    ensures { λ r. ⌜ r ≡ holidayOn h day ⌝ }
+// A day's bit is set; no day past the 32 bits has one.
+fn bit_on(days: u32, day: u8) -> bool
+    ensures { λ r. ⌜ r ≡ dayOn days day ⌝ }
 {
     if day < 32 {
-        (h.holidays >> day) & 1 == 1
+        (days >> day) & 1 == 1
     } else {
         false
     }
 }
 
-// Which days are control days, of 256, as many as a byte can name; none past the 31 that a month may have.
+// The day's bit of the holidays.
+pub fn holiday_on(h: Header, day: u8) -> bool
+    ensures { λ r. ⌜ r ≡ holidayOn h day ⌝ }
+{
+    bit_on(h.holidays, day)
+}
+
+// Which days are control days: a bit for each, the lowest for day 0; none past the 31 that a month may have.
 pub struct ControlDays {
-    pub on: [bool; 256],
+    pub on: u32,
 }
 
 // The control days that a header gives, whatever its number of days: yes in the table, and no holiday.
 pub fn control_days(h: Header) -> ControlDays
-    ensures { λ r. ⌜ r .on ≡ listed (tableDay h) 256 ⌝ }
+    ensures { λ r. ⌜ ((day : ℕ) → dayOn (r .on) day ≡ tableDay h day) ⌝ }
 {
     let line = line_of(h.weekday);
-    let mut on = [false; 256];
+    let mut on: u32 = 0;
     let mut day: u8 = 0;
     while day < 31 {
         let i = day as usize;
-        on[i] = (line[i] == YES) & !holiday_on(h, day);
+        if line[i] == YES {
+            on = on | (1 << day);
+        }
         day += 1;
     }
-    ControlDays { on }
+    ControlDays {
+        on: on & !h.holidays,
+    }
+}
+
+// The day's bit of the control days.
+pub fn is_on(control: ControlDays, day: u8) -> bool
+    ensures { λ r. ⌜ r ≡ dayOn (control .on) day ⌝ }
+{
+    bit_on(control.on, day)
 }
 
 // A month that the table has, so that its control days are those of the weekday rule.

@@ -1,21 +1,15 @@
-use native.Mathlib.Omega.{arith}
-use lib.Bits.{and-mask}
 use Rattle.rules.specs.ControlHours.{holidayOn}
-use Rattle.calendar.proofs.Shifts.{shifted-out}
+use Rattle.calendar.specs.Days.{dayOn}
 use borrow.Author.Needs.{needs}
 use Rattle.calendar.proofs.holiday_on.Statement.{statement}
 use Rattle.calendar.proofs.holiday_on.Tie as tie
 
-shr-result : tie.Need-shr-result
-shr-result c = search needs
+bit-on-requires : tie.Need-bit-on-requires
+bit-on-requires c κs = search needs
 
 returns : tie.Need-returns
-unfolding holidayOn
-returns c = rw (and-mask _ 1)
-
-returns-2 : tie.Need-returns-2
-unfolding holidayOn
-returns-2 c = rw (shifted-out (c .before .args .h .holidays) _ (omega arith) (c .if1 .left))
+unfolding holidayOn dayOn
+returns c = c .bit-on .ensures
 
 pub holiday-on-spec : {M : Type 1} → statement M
-holiday-on-spec = tie.close (tie.spec shr-result returns returns-2)
+holiday-on-spec = tie.close (tie.spec bit-on-requires returns)
