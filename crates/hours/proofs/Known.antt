@@ -1,29 +1,29 @@
 -- The control average is that of the definitions, where the days that are marked are those of the table. Assumes nothing.
 use mathlib.Core.Path.{_≡_, refl, sym, ap, ap₂, _∙_}
-use mathlib.Core.Bool.{Bool, true, false}
+use mathlib.Core.Bool.{Bool, true}
 use mathlib.Core.List.{List}
 use Prim.Native.Nat.{ℕ, _+_, _*_, _≤_, _<_}
 use native.Mathlib.Omega.{arith}
 use borrow.Author.Tests.{le-leb}
-use lib.ListN.{length, getD}
+use lib.ListN.{length}
 use Rattle.rules.specs.declared.Header.{Header}
-use Rattle.rules.specs.Range.{sum, when, listed}
+use Rattle.rules.specs.Range.{sum, when}
 use Rattle.rules.specs.ControlHours.{controlDay, controlSum, controlCount, controlAverage}
 use Rattle.rules.specs.ControlTable.{tableDay}
 use Rattle.laws.proofs.Range.{sum-same}
-use Rattle.laws.proofs.Arrays.{getD-listed}
 use Rattle.laws.proofs.ControlHours.{evening, control-by-day, count-by-day}
 use Rattle.laws.proofs.ControlTable.{table-day}
 use Rattle.units.specs.Sums.{tenths}
+use Rattle.calendar.specs.Days.{dayOn}
 use Rattle.hours.specs.declared.series.Hourly.{Hourly}
 use Rattle.hours.specs.Series.{hourlyStands, hourlyIn}
 use Rattle.hours.specs.Control.{controlIn, averageIn}
 
-module _ (h : Header) (few : h .days ≤ 31) (from : 1 ≤ h .weekday) (to : h .weekday ≤ 7) {on : List Bool} (days : on ≡ listed (tableDay h) 256) where
-  marked : (d : ℕ) → d < h .days → getD on d false ≡ controlDay h d
-  marked d b = rw days (getD-listed false (tableDay h) 256 d (omega arith)) ∙ table-day h d from to (omega arith)
+module _ (h : Header) (few : h .days ≤ 31) (from : 1 ≤ h .weekday) (to : h .weekday ≤ 7) (on : ℕ) (days : (d : ℕ) → dayOn on d ≡ tableDay h d) where
+  marked : (d : ℕ) → d < h .days → dayOn on d ≡ controlDay h d
+  marked d b = days d ∙ table-day h d from to (omega arith)
 
-  count-known : sum (λ d. when (getD on d false) 6) (h .days) ≡ controlCount h
+  count-known : sum (λ d. when (dayOn on d) 6) (h .days) ≡ controlCount h
   count-known = sum-same _ _ {n = h .days} refl (λ d b. ap (λ (t : Bool). when t 6) (marked d b)) ∙ sym (count-by-day h)
 
   -- Of a series that the part has in every hour of the month.
@@ -32,7 +32,7 @@ module _ (h : Header) (few : h .days ≤ 31) (from : 1 ≤ h .weekday) (to : h .
     evening-read : (d : ℕ) → d < h .days → evening (hourlyIn part x) d ≡ evening series d
     evening-read d b = sum-same _ _ {n = 6} refl (λ t q. read (24 * d + (17 + t)) (omega arith))
 
-    sum-known : sum (λ d. when (getD on d false) (evening (hourlyIn part x) d)) (h .days) ≡ controlSum h series
+    sum-known : sum (λ d. when (dayOn on d) (evening (hourlyIn part x) d)) (h .days) ≡ controlSum h series
     unfolding controlSum
     sum-known = sum-same _ _ {n = h .days} refl (λ d b. ap₂ when (marked d b) (evening-read d b)) ∙ sym (control-by-day h series (h .days))
 

@@ -1,4 +1,5 @@
 pub mod Standing
 pub mod Turns
+pub mod Evenings
 pub mod Known
 pub mod LowPowers

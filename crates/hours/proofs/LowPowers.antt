@@ -8,13 +8,14 @@ use native.Mathlib.Omega.{arith}
 use lib.Bits.{bitOr, or-zero-l, or-zero-r}
 use lib.Dec.{eqb, leb, ltb}
 use lib.ListN.{length, getD}
-use borrow.Author.Tests.{eqb-true, eqb-false, eq-eqb, ne-eqb, leb-true, ltb-true}
+use borrow.Author.Tests.{eqb-true, eqb-false, eq-eqb, ne-eqb, leb-true, leb-false, ltb-true, not-true}
 use Rattle.rules.specs.Fields.{bigEndian}
 use Rattle.rules.specs.Range.{sum}
 use Rattle.rules.specs.Sheet.{series}
 use Rattle.laws.specs.Bounds.{mostWord}
-use Rattle.laws.proofs.Range.{sum-more, sum-same, sum-fold, sum-le, both}
+use Rattle.laws.proofs.Range.{sum-more, sum-same, sum-fold, sum-le, both, any-clear}
 use Rattle.laws.proofs.ControlHours.{sum-append}
+use Rattle.refusals_powers.specs.Powers.{lowPowers}
 use Rattle.units.specs.Sums.{tenths, added}
 use Rattle.units.proofs.Adding.{added-exact}
 use Rattle.hours.specs.declared.k4.K4.{K4}
@@ -239,3 +240,12 @@ low-column part start days low there stands =
           let name : 4 * (start / 4 + i) ≡ start + 4 * i = omega arith in
           rw (← name) (low (start / 4 + i) (omega (arith, stands)));
     }
+
+pub low-part : (part : List ℕ) → lowPowers part ≡ true → LowPart part
+unfolding lowPowers
+low-part part e i l =
+    let none = not-true _ (both (eqb (length part % 288) 0) _ e .1) in
+    below (bigEndian 4 part (4 * i)) (any-clear _ (length part / 4) none i (omega arith))
+  where
+    below : (x : ℕ) → leb 32768 x ≡ false → x ≤ 32767
+    below x f = omega (arith, leb-false 32768 x f)

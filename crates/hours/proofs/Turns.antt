@@ -1,16 +1,15 @@
 -- k4's sums from an hour to the next, and the control hours from a day to the next. Assumes nothing.
 use mathlib.Core.Path.{_≡_, sym, _∙_}
-use mathlib.Core.Bool.{Bool, true, false}
-use mathlib.Core.List.{List}
+use mathlib.Core.Bool.{true, false}
 use Prim.Native.Nat.{ℕ, zero-le, _+_, _*_, _≤_}
 use native.Mathlib.Nat.{add-zero}
 use native.Mathlib.Omega.{arith}
-use lib.ListN.{getD}
 use Rattle.rules.specs.Range.{sum, when}
 use Rattle.laws.proofs.Range.{sum-none, sum-more, sum-fold}
 use Rattle.laws.proofs.ControlHours.{evening}
 use Rattle.laws.specs.Bounds.{mostWord}
 use Rattle.units.specs.Sums.{tenths}
+use Rattle.calendar.specs.Days.{dayOn}
 use Rattle.hours.specs.declared.k4.K4.{K4}
 use Rattle.hours.specs.declared.control.Control.{Control}
 use Rattle.hours.specs.Sums.{K4Before}
@@ -29,17 +28,17 @@ pub none-summed : (working possible : ℕ → ℕ) (S : ℕ) → K4Before workin
 none-summed working possible S = (sym (sum-none _), sym (sum-none _), zero-le, zero-le)
 
 -- The control hours of the days before a day: the sum over them, and how many they are.
-pub record SoFar (series : ℕ → ℕ) (on : List Bool) (day counted count : ℕ) : Type 0 where
-  pub sum-is : counted ≡ sum (λ d. when (getD on d false) (evening series d)) day
-  pub count-is : count ≡ sum (λ d. when (getD on d false) 6) day
+pub record SoFar (series : ℕ → ℕ) (on : ℕ) (day counted count : ℕ) : Type 0 where
+  pub sum-is : counted ≡ sum (λ d. when (dayOn on d) (evening series d)) day
+  pub count-is : count ≡ sum (λ d. when (dayOn on d) 6) day
   pub fits : counted ≤ mostWord * count
   pub few : count ≤ 6 * day
 
-module _ (series : ℕ → ℕ) (on : List Bool) where
+module _ (series : ℕ → ℕ) (on : ℕ) where
   pub none-yet : SoFar series on 0 0 0
   none-yet = record { sum-is = sym (sum-none _); count-is = sym (sum-none _); fits = zero-le; few = zero-le }
 
-  pub control-more : {day counted count v : ℕ} → SoFar series on day counted count → getD on day false ≡ true → v ≡ evening series day
+  pub control-more : {day counted count v : ℕ} → SoFar series on day counted count → dayOn on day ≡ true → v ≡ evening series day
       → v ≤ 6 * mostWord → SoFar series on (day + 1) (counted + v) (count + 6)
   unfolding when
   control-more k e q l =
@@ -50,7 +49,7 @@ module _ (series : ℕ → ℕ) (on : List Bool) where
         few = omega arith;
       }
 
-  pub other-more : {day counted count : ℕ} → SoFar series on day counted count → getD on day false ≡ false → SoFar series on (day + 1) counted count
+  pub other-more : {day counted count : ℕ} → SoFar series on day counted count → dayOn on day ≡ false → SoFar series on (day + 1) counted count
   unfolding when
   other-more {day} k e =
       record {

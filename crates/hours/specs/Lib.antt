@@ -2,3 +2,4 @@ pub mod Series
 pub mod Sums
 pub mod Control
 pub mod Low
+pub mod Figures

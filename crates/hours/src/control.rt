@@ -1,19 +1,29 @@
 // The control average of an hourly figure: its sum over the control hours by their count, to a tenth or to a hundredth.
 ghost use mathlib.Core.Path.{_≡_};
-ghost use Prim.Native.Nat.{_+_, _-_, _*_, _<_, _≤_};
+ghost use mathlib.Core.Bool.{false};
+ghost use Prim.Native.Nat.{ℕ, _+_, _*_, _<_, _≤_};
+ghost use Rattle.rules.specs.Sheet.{series};
+ghost use Rattle.refusals_powers.specs.Powers.{highPowers};
 ghost use Rattle.rules.specs.ControlHours.{average};
 ghost use Rattle.laws.proofs.ControlHours.{evening};
 ghost use Rattle.laws.specs.Bounds.{mostWord};
-ghost use Rattle.hours.specs.Series.{HourlyStands, hourlyIn};
+ghost use Rattle.hours.specs.declared.series.Hourly.{Hourly};
+ghost use Rattle.hours.specs.Series.{Stands, powerIn, HourlyStands, hourlyIn};
 ghost use Rattle.rules.specs.Units.{tenth, hundredth};
-ghost use Rattle.hours.specs.Control.{controlOf, controlIn, averageIn};
+ghost use Rattle.hours.specs.Control.{controlOf, controlIn, averageIn, Twos};
 use crate::series::Hourly;
 use crate::series::figure_at;
 use crate::series::hourly_stands;
+use crate::series::power;
+use crate::series::stands;
 use calendar::ControlDays;
+use calendar::is_on;
+use rules::Series;
 use units::Hundredths;
 use units::Tenths;
 use units::nearest;
+
+const TWO_TO_32: u64 = 4_294_967_296;
 
 // The figures of the control hours in all, and how many hours these are.
 struct Control {
@@ -45,13 +55,56 @@ fn by_day(part: &[u8], x: Hourly, days: u8, control: ControlDays) -> Control
     let mut count: u64 = 0;
     let mut day: usize = 0;
     while day < days as usize {
-        if control.on[day] {
+        if is_on(control, day as u8) {
             counted = counted.plus(evening_sum(part, x, day));
             count = count + 6;
         }
         day += 1;
     }
     Control { counted, count }
+}
+
+// Two powers of a column, the first in the upper 32 bits: one load.
+fn two_powers(part: &[u8], of: Series, i: usize) -> u64
+    requires { ⌜ Stands (now part) of (i + 2) × (i < 65000) ⌝ }
+    requires { ⌜ (powerIn (now part) of i ≤ 100000) × (powerIn (now part) of (i + 1) ≤ 100000) ⌝ }
+    ensures { λ r. ⌜ Twos (powerIn (now (part .entry)) of i + powerIn (now (part .entry)) of (i + 1)) 100000 r ⌝ }
+{
+    (power(part, of, i) as u64 * TWO_TO_32) | (power(part, of, i + 1) as u64)
+}
+
+// The powers of a day's hours 17 to 22, two by two.
+fn evening_twos(part: &[u8], of: Series, day: usize) -> u64
+    requires { ⌜ Stands (now part) of (24 * day + 23) × (day < 256) ⌝ }
+    requires { ⌜ ((i : ℕ) → i < 24 * day + 23 → powerIn (now part) of i ≤ 100000) ⌝ }
+    ensures { λ r. ⌜ Twos (evening (powerIn (now (part .entry)) of) day) 300000 r ⌝ }
+{
+    let at = 24 * day + 17;
+    two_powers(part, of, at) + two_powers(part, of, at + 2) + two_powers(part, of, at + 4)
+}
+
+// The same as by_day of a column whose powers are within the ceiling. The step is written out, so that the compiler knows it.
+fn by_column(part: &[u8], start: u16, days: u8, control: ControlDays) -> Control
+    requires { ⌜ Stands (now part) (series start 4) (24 * days) × (days ≤ 31) ⌝ }
+    requires { ⌜ ((i : ℕ) → i < 24 * days → powerIn (now part) (series start 4) i ≤ 100000) ⌝ }
+    ensures { λ r. ⌜ (r ≡ controlOf (powerIn (now (part .entry)) (series start 4)) (control .on) days) × (r .counted .0 ≤ mostWord * r .count)
+        × (r .count ≤ 186) ⌝ }
+{
+    let of = Series { start, step: 4 };
+    let mut twos: u64 = 0;
+    let mut count: u64 = 0;
+    let mut day: usize = 0;
+    while day < days as usize {
+        if is_on(control, day as u8) {
+            twos = twos + evening_twos(part, of, day);
+            count = count + 6;
+        }
+        day += 1;
+    }
+    Control {
+        counted: Tenths(twos / TWO_TO_32 + twos % TWO_TO_32),
+        count,
+    }
 }
 
 // Of a month of so many days. Nothing is counted where the part ends before the powers do, or in a month of more than 31 days.
@@ -89,10 +142,25 @@ pub fn average_to_tenth(part: &[u8], x: Hourly, days: u8, control: ControlDays) 
     Tenths(average_of(control_hours(part, x, days, control), TENTH))
 }
 
-// The same to a hundredth.
-pub fn average_to_hundredth(part: &[u8], x: Hourly, days: u8, control: ControlDays) -> Hundredths
-    ensures { λ r. ⌜ r .0 ≡ averageIn hundredth (now (part .entry)) x days (control .on) ⌝ }
+// The control hours of a series in a part without a power above the ceiling.
+fn outside_hours(part: &[u8], x: Series, days: u8, control: ControlDays) -> Control
+    requires { ⌜ highPowers (now part) ≡ false ⌝ }
+    ensures { λ r. ⌜ r ≡ controlIn (now (part .entry)) (Hourly.Power x) days (control .on) ⌝ }
+    ensures fits { λ r. ⌜ (r .counted .0 ≤ mostWord * r .count) × (r .count ≤ 186) ⌝ }
+{
+    if (x.step == 4) & (x.start % 4 == 0) {
+        if (days <= 31) & stands(part, x, 24 * (days as u16)) {
+            return by_column(part, x.start, days, control);
+        }
+    }
+    control_hours(part, Hourly::Power(x), days, control)
+}
+
+// Its control average to a hundredth.
+pub(crate) fn outside_average(part: &[u8], x: Series, days: u8, control: ControlDays) -> Hundredths
+    requires { ⌜ highPowers (now part) ≡ false ⌝ }
+    ensures { λ r. ⌜ r .0 ≡ averageIn hundredth (now (part .entry)) (Hourly.Power x) days (control .on) ⌝ }
     ensures fits { λ r. ⌜ r .0 ≤ 10 * mostWord ⌝ }
 {
-    Hundredths(average_of(control_hours(part, x, days, control), HUNDREDTH))
+    Hundredths(average_of(outside_hours(part, x, days, control), HUNDREDTH))
 }

@@ -1,5 +1,5 @@
 use native.Mathlib.Omega.{arith}
-use mathlib.Core.Path.{_≡_, ap, _∙_}
+use mathlib.Core.Path.{_≡_, sym, ap, _∙_}
 use mathlib.Core.Logic.{⊎-elim}
 use Prim.Native.Nat.{_-_, _≤_, zero-le}
 use Rattle.units.specs.Sums.{tenths}
@@ -20,8 +20,11 @@ abbrev μ-loop : tie.MeasureT-loop
 loop-holds : tie.Need-loop-holds Inv-loop μ-loop
 loop-holds c = (none-yet _ _, zero-le)
 
-element-copy-out-if1 : tie.Need-element-copy-out-if1 Inv-loop μ-loop
-element-copy-out-if1 c = search needs
+cast-is-on : tie.Need-cast-is-on Inv-loop μ-loop
+cast-is-on c = record { fits = omega arith }
+
+is-on-requires : tie.Need-is-on-requires Inv-loop μ-loop
+is-on-requires c κs = search needs
 
 evening-sum-requires : tie.Need-evening-sum-requires Inv-loop μ-loop
 evening-sum-requires c κs = (hourly-fewer (c .before .before .before .before .before .args .part .now) (c .before .before .before .before .before .args .x) (omega arith) (c .before .before .before .before .before .pre .0), omega arith)
@@ -40,11 +43,12 @@ loop-less c = search needs
 
 loop-again : tie.Need-loop-again Inv-loop μ-loop
 loop-again c =
-    let l = c .before .before .before .loop in (
+    let l = c .before .before .before .loop in
+    let on = sym (c .before .is-on .ensures) in (
       ⊎-elim
           (λ w. rw (w .3, w .4, ap tenths (w .2 .ensures ∙ added-exact _ _ (omega (arith, l .inv .0 .fits, l .inv .0 .few, w .1 .ensures .1))))
-          (control-more _ _ (l .inv .0) (w .0 .taken) (w .1 .ensures .0) (w .1 .ensures .1)))
-          (λ w. rw (w .1, w .2) (other-more _ _ (l .inv .0) (w .0 .left)))
+          (control-more _ _ (l .inv .0) (on ∙ w .0 .taken) (w .1 .ensures .0) (w .1 .ensures .1)))
+          (λ w. rw (w .1, w .2) (other-more _ _ (l .inv .0) (on ∙ w .0 .left)))
           (c .if1 .came),
       omega arith,
     )
@@ -63,7 +67,8 @@ by-day-spec =
     Inv-loop
     μ-loop
     loop-holds
-    element-copy-out-if1
+    cast-is-on
+    is-on-requires
     evening-sum-requires
     plus-requires
     add-count
