@@ -60,12 +60,7 @@ pub sheet-is : (needed : ℕ) (s : List ℕ) (room : ℕ)
 unfolding testsFor
 sheet-is needed s room = simp append-assoc
 
--- Numbers from 1 to 9.
-abbrev early : List Test → Bool
-early [] = true
-early (t ∷ ts) = (leb 1 (t .number) && leb (t .number) 9) && early ts
-
--- The hours add nothing to such a number, and so nothing where it comes before the last tests.
+-- The hours change nothing where the number is neither 0 nor above 9,
 pub not-added : (number : ℕ) (high : Bool) → (eqb number 0 || ltb 9 number) ≡ false → number ≡ withHours number high
 unfolding withHours
 not-added number high e = rw (e, and-false)
@@ -75,6 +70,11 @@ stands number high e =
     let from : 1 ≤ number = leb→le 1 number (and-l (leb 1 number) (leb number 9) e) in
     let to : number ≤ 9 = leb→le number 9 (and-r (leb 1 number) (leb number 9) e) in
     not-added number high (rw (ne-eqb number 0 (λ (q : number ≡ 0). omega arith), le-ltb 9 number to))
+
+-- and so nothing where it comes from a list of such numbers.
+abbrev early : List Test → Bool
+early [] = true
+early (t ∷ ts) = (leb 1 (t .number) && leb (t .number) 9) && early ts
 
 before-hours : (xs ys zs : List Test) (high : Bool) → T (early xs) → (firstOf xs ≡ 0 → firstOf ys ≡ withHours (firstOf zs) high)
     → firstOf (xs ++ ys) ≡ withHours (firstOf (xs ++ zs)) high
@@ -88,7 +88,7 @@ before-hours (x ∷ xs) ys zs high e h = go (x .applies) (λ k. before-hours xs 
     go true later k = stands (x .number) high (and-l (leb 1 (x .number) && leb (x .number) 9) (early xs) e)
     go false later k = later k
 
--- 9, where the number that is left is none or above it.
+-- Where it is 0 or above 9, a high power is 9.
 pub nine : (a b : Bool) (number : ℕ) → (eqb number 0 || ltb 9 number) ≡ true → cond (a || b) 9 number ≡ withHours (cond a 9 number) b
 unfolding withHours
 nine true true number e = refl
@@ -100,7 +100,7 @@ or-last : (a b c : Bool) → ((a || b) || c) ≡ ((a || c) || b)
 or-last true b c = refl
 or-last false b c = or-comm b c
 
--- The numbers above 9, in their order, 0 where none applies.
+-- 10, 11, 12 and 18: the first that applies, 0 where none does.
 abbrev left : Bool → Bool → Bool → Bool → ℕ
 left ten eleven twelve eighteen = cond ten 10 (cond eleven 11 (cond twelve 12 (cond eighteen 18 0)))
 
@@ -111,6 +111,7 @@ above false false true d = refl
 above false false false true = refl
 above false false false false = refl
 
+-- 8, then 9, then these.
 eight : (share figures inHours others a b c d : Bool)
     → cond share 8 (cond ((figures || inHours) || others) 9 (left a b c d)) ≡ withHours (cond share 8 (cond (figures || others) 9 (left a b c d))) inHours
 eight true figures inHours others a b c d = stands 8 inHours tt
@@ -139,6 +140,7 @@ module _ (m : Month) where
       rw in-some
       (eight (p .share) (p .high) inHours (r .high || (c .high || false)) (r .reference) (r .dear || (c .dear || false)) (c .factor) (r .days))
 
+-- The same of a whole sheet, whose hours are read as stretches.
 pub figures-are : (layout : Layout) (s : List ℕ) → sheetLength layout ≤ length s
     → firstOf (figureTests (monthUnder layout s)) ≡ withHours (firstOf (recordTests (monthUnder layout s))) (highHours layout s (layout .header .producers))
 figures-are layout s fits = rw (hours-high layout s fits) (figures-with (monthUnder layout s))
@@ -156,7 +158,7 @@ module _ (layout : Layout) (s : List ℕ) (room : ℕ) where
       before-hours (headerTests layout (length s)) _ _ _ tt
       (λ none. before-hours (roomTests (resultLength (layout .header)) room) _ _ _ tt (λ enough. figures-are layout s (whole layout (length s) none)))
 
-  -- Where none from 4 on does, hours apart.
+  -- Where none of the records' applies: the header, the length and the room are right.
   pub record-kept : recordNumber layout s room ≡ 0
       → (HeaderLimits (layout .header) × (sheetLength layout ≤ length s)) × (resultLength (layout .header) ≤ room)
   unfolding recordNumber

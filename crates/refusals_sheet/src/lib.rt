@@ -108,7 +108,8 @@ fn consumer_tests(s: &[u8], layout: Layout) -> ConsumerTests
     ConsumerTests { high, dear, factor }
 }
 
-// The first of the numbers 8 to 12 and 18 that applies to the records that a layout puts into a whole sheet, hours apart; 0 where none does.
+// The first of the numbers 8 to 12 and 18 that applies to the records that a layout puts into a whole sheet, apart from the hours; 0 where
+// none does.
 fn record_refusal(s: &[u8], layout: Layout) -> u8
     requires { ⌜ sheetLength layout ≤ length (now s) ⌝ }
     ensures { λ r. ⌜ r ≡ firstOf (recordTests (monthUnder layout (now (s .entry)))) ⌝ }
@@ -183,8 +184,8 @@ pub fn result_refusal(s: &[u8], needed: usize, room: usize) -> u8
     figure_refusal(s, layout(s))
 }
 
-// The first of the numbers from 4 on that applies to the month that a layout puts into a sheet, hours apart, for a result buffer of so many
-// bytes; 0 where none does.
+// The first of the numbers from 4 on that applies to the month that a layout puts into a sheet, apart from the hours, for a result buffer
+// of so many bytes; 0 where none does.
 pub fn record_number(s: &[u8], layout: Layout, room: usize) -> u8
     ensures { λ r. ⌜ r ≡ recordNumber layout (now (s .entry)) room ⌝ }
 {
