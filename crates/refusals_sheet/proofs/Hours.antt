@@ -1,6 +1,6 @@
--- Numbers 8 and 9 of a producer: its stated figures, and the powers in the stretch of its hours. Assumes nothing.
+-- Numbers 8 and 9 of producers: of their stated figures, and of the powers in the stretches of their hours. Assumes nothing.
 use mathlib.Core.Path.{_≡_, refl, sym, _∙_}
-use mathlib.Core.Bool.{Bool, true, false, _||_, or-false, or-assoc}
+use mathlib.Core.Bool.{Bool, true, false, or-false, or-assoc}
 use mathlib.Core.List.{List}
 use Prim.Native.Nat.{ℕ, _+_, _*_, _≤_, _<_}
 use native.Mathlib.Omega.{arith}
@@ -11,7 +11,7 @@ use Rattle.rules.specs.Range.{any}
 use Rattle.rules.specs.Month.{hours}
 use Rattle.rules.specs.Fields.{bigEndian}
 use Rattle.rules.specs.Sheet.{hoursWidth, producerAt, hoursAt, sheetLength, statedOf, byColumn, triples, columns, hourSeries, power, producerUnder}
-use Rattle.rules.specs.Refusals.{oneOf, tooHigh, badShare, highHour, highProducer}
+use Rattle.rules.specs.Refusals.{oneOf, tooHigh, badShare, highHour}
 use Rattle.rules.specs.Outcome.{within}
 use Rattle.laws.proofs.Range.{any-same, any-groups, any-columns}
 use Rattle.laws.proofs.Sheet.{by-hour, by-column, hours-inside}
@@ -20,6 +20,8 @@ use Rattle.sheet.proofs.Whole.{stated-whole, stretch-whole}
 use Rattle.refusals_record.specs.Stated.{withoutPower, highStated}
 use Rattle.refusals_powers.specs.Powers.{highPowers}
 use Rattle.refusals_powers.proofs.Powers.{part-high}
+use Rattle.refusals_sheet.specs.Tests.{highFigures}
+use Rattle.refusals_sheet.specs.Numbers.{highHours}
 
 module _ (layout : Layout) (s : List ℕ) (p : ℕ) where
   abbrev highAt : ℕ → Bool
@@ -71,9 +73,14 @@ module _ (layout : Layout) (s : List ℕ) (p : ℕ) where
     unfolding badShare
     share-found same found = rw (found, same, stated)
 
-    -- 9.
-    pub high-found : {a : Bool} {b : Bool} {x : Stated} {part : List ℕ} → x ≡ statedIn layout s p → a ≡ highStated x
-        → part ≡ within (stretchIn layout (length s) p) s → b ≡ highPowers part
-        → (a || b) ≡ highProducer (layout .header) (producerUnder layout s p)
-    unfolding highProducer oneOf highStated
-    high-found same first lent rest = rw (first, rest, lent, stretch-high ends, same, stated, or-false) (simp or-assoc)
+    -- 9, apart from the hours.
+    pub high-found : {r : Bool} {x : Stated} → x ≡ statedIn layout s p → r ≡ highStated x → r ≡ highFigures (producerUnder layout s p)
+    unfolding highFigures oneOf highStated
+    high-found same found = rw (found, same, stated, or-false)
+
+-- 9, of the hours of the producers of a whole sheet.
+pub hours-high : (layout : Layout) (s : List ℕ) → sheetLength layout ≤ length s
+    → highHours layout s (layout .header .producers)
+    ≡ any (λ p. any (highHour (producerUnder layout s p)) (hours (layout .header))) (layout .header .producers)
+unfolding highHours
+hours-high layout s whole = any-same _ _ _ (λ p l. stretch-high layout s p (ends layout s p whole l))

@@ -1,12 +1,12 @@
-// The numbers of a whole sheet: all but 7, all with a result's room, and those from 4 on of a month under a layout. Each record is read
-// once.
+// The numbers of a whole sheet: all but 7, all with a result's room, and those from 4 on of a month under a layout, apart from its hours.
+// Each record is read once.
 ghost use mathlib.Core.Path.{_≡_};
 ghost use Prim.Native.Nat.{_≤_};
 ghost use lib.ListN.{length};
 ghost use Rattle.rules.specs.Sheet.{sheetLength, monthUnder};
 ghost use Rattle.rules.specs.Refusals.{figureTests, sheetTests, testsFor, firstOf};
-ghost use Rattle.refusals_sheet.specs.Tests.{producerTests, rowTests, consumerTests};
-ghost use Rattle.refusals_sheet.specs.Numbers.{monthNumber};
+ghost use Rattle.refusals_sheet.specs.Tests.{producerTests, rowTests, consumerTests, recordTests};
+ghost use Rattle.refusals_sheet.specs.Numbers.{recordNumber, highHours, withHours};
 use places::result_length;
 use refusals_form::first;
 use refusals_form::form_refusal;
@@ -28,7 +28,7 @@ use sheet::producer;
 use sheet::row;
 use sheet::stretch;
 
-// What is wrong with some producer: number 8, number 9.
+// What is wrong with the stated figures of some producer: number 8, number 9.
 struct ProducerTests {
     share: bool,
     high: bool,
@@ -58,9 +58,8 @@ fn producer_tests(s: &[u8], layout: Layout) -> ProducerTests
     let mut p: u8 = 0;
     while p < layout.header.producers {
         let x = producer(s, layout, p);
-        let hours = stretch(s, layout, p);
         share = share | bad_share(layout.header, x);
-        high = high | (high_stated(x) | high_powers(hours));
+        high = high | high_stated(x);
         p += 1;
     }
     ProducerTests { share, high }
@@ -109,10 +108,11 @@ fn consumer_tests(s: &[u8], layout: Layout) -> ConsumerTests
     ConsumerTests { high, dear, factor }
 }
 
-// The first of the numbers 8 to 12 and 18 that applies to the figures that a layout puts into a whole sheet, 0 where none does.
-fn figure_refusal(s: &[u8], layout: Layout) -> u8
+// The first of the numbers 8 to 12 and 18 that applies to the records that a layout puts into a whole sheet, apart from the hours; 0 where
+// none does.
+fn record_refusal(s: &[u8], layout: Layout) -> u8
     requires { ⌜ sheetLength layout ≤ length (now s) ⌝ }
-    ensures { λ r. ⌜ r ≡ firstOf (figureTests (monthUnder layout (now (s .entry)))) ⌝ }
+    ensures { λ r. ⌜ r ≡ firstOf (recordTests (monthUnder layout (now (s .entry)))) ⌝ }
 {
     let p = producer_tests(s, layout);
     let r = row_tests(s, layout);
@@ -123,6 +123,39 @@ fn figure_refusal(s: &[u8], layout: Layout) -> u8
     let ten = first(10, r.reference, eleven);
     let nine = first(9, p.high | (r.high | c.high), ten);
     first(8, p.share, nine)
+}
+
+// Some power in the hours of some producer is above the ceiling.
+pub fn high_hours(s: &[u8], layout: Layout) -> bool
+    ensures { λ r. ⌜ r ≡ highHours layout (now (s .entry)) (layout .header .producers) ⌝ }
+{
+    let mut high = false;
+    let mut p: u8 = 0;
+    while p < layout.header.producers {
+        let hours = stretch(s, layout, p);
+        high = high | high_powers(hours);
+        p += 1;
+    }
+    high
+}
+
+// A number that was found without the hours, with these: they are read only where a high power in them comes first.
+fn with_hours(s: &[u8], layout: Layout, number: u8) -> u8
+    ensures { λ r. ⌜ r ≡ withHours number (highHours layout (now (s .entry)) (layout .header .producers)) ⌝ }
+{
+    if (number == 0) | (9 < number) {
+        first(9, high_hours(s, layout), number)
+    } else {
+        number
+    }
+}
+
+// The first of the numbers 8 to 12 and 18 that applies to the figures that a layout puts into a whole sheet, 0 where none does.
+fn figure_refusal(s: &[u8], layout: Layout) -> u8
+    requires { ⌜ sheetLength layout ≤ length (now s) ⌝ }
+    ensures { λ r. ⌜ r ≡ firstOf (figureTests (monthUnder layout (now (s .entry)))) ⌝ }
+{
+    with_hours(s, layout, record_refusal(s, layout))
 }
 
 // The first number that applies to a sheet, all but 7, for entries that have no result buffer; 0 where none does.
@@ -151,10 +184,10 @@ pub fn result_refusal(s: &[u8], needed: usize, room: usize) -> u8
     figure_refusal(s, layout(s))
 }
 
-// The first of the numbers from 4 on that applies to the month that a layout puts into a sheet, for a result buffer of so many bytes; 0
-// where none does.
-pub fn month_refusal(s: &[u8], layout: Layout, room: usize) -> u8
-    ensures { λ r. ⌜ r ≡ monthNumber layout (now (s .entry)) room ⌝ }
+// The first of the numbers from 4 on that applies to the month that a layout puts into a sheet, apart from the hours, for a result buffer
+// of so many bytes; 0 where none does.
+pub fn record_number(s: &[u8], layout: Layout, room: usize) -> u8
+    ensures { λ r. ⌜ r ≡ recordNumber layout (now (s .entry)) room ⌝ }
 {
     let header = header_refusal(layout, s.len());
     if header != 0 {
@@ -164,5 +197,5 @@ pub fn month_refusal(s: &[u8], layout: Layout, room: usize) -> u8
     if short != 0 {
         return short;
     }
-    figure_refusal(s, layout)
+    record_refusal(s, layout)
 }

@@ -5,7 +5,8 @@ use Prim.Native.Nat.{_-_, _≤_, zero-le}
 use Rattle.rules.specs.Range.{any}
 use Rattle.rules.specs.Sheet.{monthUnder}
 use Rattle.laws.proofs.Range.{any-start, any-fold, any-done}
-use Rattle.rules.specs.Refusals.{badShare, highProducer}
+use Rattle.rules.specs.Refusals.{badShare}
+use Rattle.refusals_sheet.specs.Tests.{highFigures}
 use Rattle.refusals_sheet.proofs.Hours.{share-found, high-found}
 use Rattle.refusals_sheet.proofs.producer_tests.Statement.{statement}
 use Rattle.refusals_sheet.proofs.producer_tests.Tie as tie
@@ -13,7 +14,7 @@ use Rattle.refusals_sheet.proofs.producer_tests.Tie as tie
 abbrev Inv-loop : tie.InvT-loop
 Inv-loop s layout share₀ high₀ p₀ share high p =
     (share ≡ any (λ i. badShare (layout .header) (monthUnder layout s .producer i)) p)
-    × (high ≡ any (λ i. highProducer (layout .header) (monthUnder layout s .producer i)) p)
+    × (high ≡ any (λ i. highFigures (monthUnder layout s .producer i)) p)
     × (p ≤ layout .header .producers)
 
 abbrev μ-loop : tie.MeasureT-loop
@@ -25,17 +26,11 @@ loop-holds c = (sym (any-start _), sym (any-start _), zero-le)
 producer-requires : tie.Need-producer-requires Inv-loop μ-loop
 producer-requires c κs = search needs
 
-stretch-requires : tie.Need-stretch-requires Inv-loop μ-loop
-stretch-requires c κs = search needs
-
 bad-share-requires : tie.Need-bad-share-requires Inv-loop μ-loop
 bad-share-requires c κs = search needs
 
 high-stated-requires : tie.Need-high-stated-requires Inv-loop μ-loop
 high-stated-requires c κs = search needs
-
-high-powers-requires : tie.Need-high-powers-requires Inv-loop μ-loop
-high-powers-requires c κs = search needs
 
 add-p : tie.Need-add-p Inv-loop μ-loop
 add-p c = omega arith
@@ -45,10 +40,11 @@ loop-less c = omega arith
 
 loop-again : tie.Need-loop-again Inv-loop μ-loop
 loop-again c =
-    let a = c .before .before .before .before .before .before .before .before .before in
-    let x = c .before .before .before .before .producer .ensures in (
-      any-fold _ _ (c .before .before .before .before .before .before .before .loop .inv .0) (share-found (a .args .layout) (a .args .s .now) (c .before .before .before .before .before .before .before .loop .p) (a .pre) (omega arith) x (c .before .before .bad-share .ensures)),
-      any-fold _ _ (c .before .before .before .before .before .before .before .loop .inv .1) (high-found (a .args .layout) (a .args .s .now) (c .before .before .before .before .before .before .before .loop .p) (a .pre) (omega arith) x (c .before .high-stated .ensures) (c .before .before .before .stretch .ensures .0) (c .high-powers .ensures)),
+    let a = c .before .before .before .before .before .before .before in
+    let l = c .before .before .before .before .before .loop in
+    let x = c .before .before .producer .ensures in (
+      any-fold _ _ (l .inv .0) (share-found (a .args .layout) (a .args .s .now) (l .p) (a .pre) (omega arith) x (c .before .bad-share .ensures)),
+      any-fold _ _ (l .inv .1) (high-found (a .args .layout) (a .args .s .now) (l .p) (a .pre) (omega arith) x (c .high-stated .ensures)),
       omega arith,
     )
 
@@ -67,10 +63,8 @@ producer-tests-spec =
     μ-loop
     loop-holds
     producer-requires
-    stretch-requires
     bad-share-requires
     high-stated-requires
-    high-powers-requires
     add-p
     loop-less
     loop-again

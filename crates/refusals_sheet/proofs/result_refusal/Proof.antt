@@ -1,7 +1,7 @@
 use mathlib.Core.Path.{_≡_, sym, _∙_}
 use Rattle.rules.specs.Refusals.{formTests, firstOf}
 use Rattle.laws.proofs.Refusals.{form-numbered}
-use Rattle.refusals_sheet.proofs.Numbers.{form-whole, form-stands, room-stands, figures-next, sheet-is}
+use Rattle.refusals_sheet.proofs.Numbers.{form-whole, form-stands, room-stands, last-next, sheet-is}
 use borrow.Author.Needs.{needs}
 use Rattle.refusals_sheet.proofs.result_refusal.Statement.{statement}
 use Rattle.refusals_sheet.proofs.result_refusal.Tie as tie
@@ -36,7 +36,7 @@ returns-3 : tie.Need-returns-3
 returns-3 c =
     let r = c .before .before in
     rw (c .figure-refusal .ensures, c .before .layout .ensures)
-    (figures-next _ (form-numbered _) _ _ _ (sheet-is _ _ _) (form-none (r .before .before)) (sym (r .before .room-refusal .ensures) ∙ r .if2 .left))
+    (last-next _ (form-numbered _) _ _ _ (sheet-is _ _ _) (form-none (r .before .before)) (sym (r .before .room-refusal .ensures) ∙ r .if2 .left))
 
 pub result-refusal-spec : {M : Type 1} → statement M
 result-refusal-spec =

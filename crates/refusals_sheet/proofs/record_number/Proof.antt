@@ -4,10 +4,10 @@ use lib.ListN.{length}
 use Rattle.rules.specs.Result.{resultLength}
 use Rattle.rules.specs.Refusals.{headerTests, roomTests, firstOf}
 use Rattle.laws.proofs.Refusals.{header-numbered}
-use Rattle.refusals_sheet.proofs.Numbers.{whole, form-stands, room-stands, figures-next, month-is}
+use Rattle.refusals_sheet.proofs.Numbers.{whole, form-stands, room-stands, last-next, record-is}
 use borrow.Author.Needs.{needs}
-use Rattle.refusals_sheet.proofs.month_refusal.Statement.{statement}
-use Rattle.refusals_sheet.proofs.month_refusal.Tie as tie
+use Rattle.refusals_sheet.proofs.record_number.Statement.{statement}
+use Rattle.refusals_sheet.proofs.record_number.Tie as tie
 
 -- None of 4 to 6 applies.
 form-none : (c : tie.Else1) → firstOf (headerTests (c .before .before .before .args .layout) (length (c .before .before .before .args .s .now))) ≡ 0
@@ -26,7 +26,7 @@ header-refusal-requires c κs = search needs
 returns : tie.Need-returns
 returns c =
     let e = c .before .header-refusal .ensures in
-    e ∙ form-stands _ (header-numbered _ _) _ _ _ (month-is _ _ _) (λ z. c .if1 .taken (e ∙ z))
+    e ∙ form-stands _ (header-numbered _ _) _ _ _ (record-is _ _ _) (λ z. c .if1 .taken (e ∙ z))
 
 result-length-requires : tie.Need-result-length-requires
 result-length-requires c κs = search needs
@@ -37,18 +37,18 @@ room-refusal-requires c κs = search needs
 returns-2 : tie.Need-returns-2
 returns-2 c =
     let e = room-tried (c .before) in
-    e ∙ room-stands _ (header-numbered _ _) _ _ _ (month-is _ _ _) (form-none (c .before .before .before)) (λ z. c .if2 .taken (e ∙ z))
+    e ∙ room-stands _ (header-numbered _ _) _ _ _ (record-is _ _ _) (form-none (c .before .before .before)) (λ z. c .if2 .taken (e ∙ z))
 
-figure-refusal-requires : tie.Need-figure-refusal-requires
-figure-refusal-requires c κs = whole _ _ (form-none (c .before .before .before))
+record-refusal-requires : tie.Need-record-refusal-requires
+record-refusal-requires c κs = whole _ _ (form-none (c .before .before .before))
 
 returns-3 : tie.Need-returns-3
 returns-3 c =
     let r = c .before in
-    c .figure-refusal .ensures ∙ figures-next _ (header-numbered _ _) _ _ _ (month-is _ _ _) (form-none (r .before .before .before)) (sym (room-tried (r .before)) ∙ r .if2 .left)
+    c .record-refusal .ensures ∙ last-next _ (header-numbered _ _) _ _ _ (record-is _ _ _) (form-none (r .before .before .before)) (sym (room-tried (r .before)) ∙ r .if2 .left)
 
-pub month-refusal-spec : {M : Type 1} → statement M
-month-refusal-spec =
+pub record-number-spec : {M : Type 1} → statement M
+record-number-spec =
     tie.close
     (tie.spec
     header-refusal-requires
@@ -56,5 +56,5 @@ month-refusal-spec =
     result-length-requires
     room-refusal-requires
     returns-2
-    figure-refusal-requires
+    record-refusal-requires
     returns-3)
