@@ -16,10 +16,8 @@ use calendar::control_days;
 use calendar::in_table;
 use coefficients::bids;
 use coefficients::plans;
-use hours::Hourly;
 use hours::K4;
-use hours::average_to_hundredth;
-use hours::k4_sums;
+use hours::hour_figures;
 use places::hour_series;
 use places::sheet_length;
 use rules::Header;
@@ -40,9 +38,16 @@ pub struct Terms {
     pub ks: [u64; 10],
 }
 
-// The terms of six producers, as many as a sheet may have.
+// The terms of six producers, as many as a sheet may have; and whether some hour of theirs has a power above the ceiling, which is number 9.
 pub struct AllTerms {
     pub of: [Terms; 6],
+    pub high: bool,
+}
+
+// What one producer's hours and figures give.
+struct OwnTerms {
+    high: bool,
+    terms: Terms,
 }
 
 // k4 before it is rounded.
@@ -107,25 +112,42 @@ fn excess_of(summed: Tenths, own: u32, attested: u32) -> Tenths
         .less(Tenths::stated(attested))
 }
 
-// Producer p's excess and coefficients, before the first row.
-fn terms_of(s: &[u8], layout: Layout, p: u8, v: Volumes, control: ControlDays) -> Terms
+// Nothing to cut, and coefficients of 0.
+fn no_terms() -> Terms
+    ensures { λ r. ⌜ r ≡ zeroTerms ⌝ }
+{
+    Terms {
+        excess: Tenths(0),
+        ks: [0; 10],
+    }
+}
+
+// Producer p's excess and coefficients, before the first row; none where an hour has a power above the ceiling.
+fn terms_of(s: &[u8], layout: Layout, p: u8, v: Volumes, control: ControlDays) -> OwnTerms
     requires { ⌜ (layout .header .days ≤ 31) × (hoursAt layout p + hoursWidth (layout .header) ≤ length (now s)) ⌝ }
     requires { ⌜ (v ≡ volumesOf (monthUnder layout (now s)) p) × Fits v ⌝ }
-    requires { ⌜ (1 ≤ layout .header .weekday) × (layout .header .weekday ≤ 7) × (control .on ≡ listed (tableDay (layout .header)) 256) ⌝ }
-    ensures { λ r. ⌜ r ≡ termsAt (monthUnder layout (now (s .entry))) p 0 ⌝ }
+    requires { ⌜ (1 ≤ layout .header .weekday) × (layout .header .weekday ≤ 7) × ((d : ℕ) → dayOn (control .on) d ≡ tableDay (layout .header) d) ⌝ }
+    ensures { λ r. ⌜ r ≡ ownTerms layout (now (s .entry)) p ⌝ }
 {
     let x = producer(s, layout, p);
     let summed = summed_of(v, x.deductible);
     let excess = excess_of(summed, x.needs, x.attested);
     let hours = stretch(s, layout, p);
     let of = hour_series(layout);
-    let days = layout.header.days;
-    let sums = k4_sums(hours, of.working, of.possible, days, summed);
-    let outside = of.outside;
-    let average = average_to_hundredth(hours, Hourly::Power(outside), days, control);
-    let k1 = k1_of(average, x.deductible, v.support);
+    let f = hour_figures(hours, of, layout.header.days, summed, control);
+    if f.high {
+        return OwnTerms {
+            high: true,
+            terms: no_terms(),
+        };
+    }
+    let k1 = k1_of(f.average, x.deductible, v.support);
+    let sums = f.sums;
     let ks = ks_of(layout.header, x, k1, exact_k4(sums));
-    Terms { excess, ks }
+    OwnTerms {
+        high: false,
+        terms: Terms { excess, ks },
+    }
 }
 
 // How many producers of a sheet have terms: at most six, and none in a month that the table of control weekdays does not have or in a sheet
@@ -144,15 +166,16 @@ fn with_terms(s: &[u8], layout: Layout) -> u8
     }
 }
 
-// The excess and the coefficients of six producers, before the first row.
+// The excess and the coefficients of six producers, before the first row, and number 9 of their hours.
 pub fn all_terms(s: &[u8], layout: Layout) -> AllTerms
     ensures { λ r. ⌜ r .of ≡ listed (termsOf layout (now (s .entry))) 6 ⌝ }
+    ensures high { λ r. ⌜ r .high ≡ highHours layout (now (s .entry)) (withTerms layout (now (s .entry))) ⌝ }
 {
-    let none = Terms {
-        excess: Tenths(0),
-        ks: [0; 10],
+    let none = no_terms();
+    let mut all = AllTerms {
+        of: [none; 6],
+        high: false,
     };
-    let mut all = AllTerms { of: [none; 6] };
     let control = control_days(layout.header);
     let volumes = row_volumes(s, layout);
     let n = with_terms(s, layout);
@@ -160,8 +183,10 @@ pub fn all_terms(s: &[u8], layout: Layout) -> AllTerms
     while p < n {
         let i = p as usize;
         let v = volumes.of[i];
-        let t = terms_of(s, layout, p, v, control);
-        all.of[i] = t;
+        let own = terms_of(s, layout, p, v, control);
+        let terms = own.terms;
+        all.of[i] = terms;
+        all.high = all.high | own.high;
         p += 1;
     }
     all

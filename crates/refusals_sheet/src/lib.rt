@@ -140,7 +140,7 @@ pub fn high_hours(s: &[u8], layout: Layout) -> bool
 }
 
 // A number that was found without the hours, with these: they are read only where a high power in them comes first.
-fn with_hours(s: &[u8], layout: Layout, number: u8) -> u8
+pub fn with_hours(s: &[u8], layout: Layout, number: u8) -> u8
     ensures { λ r. ⌜ r ≡ withHours number (highHours layout (now (s .entry)) (layout .header .producers)) ⌝ }
 {
     if (number == 0) | (9 < number) {

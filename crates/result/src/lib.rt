@@ -3,7 +3,8 @@ ghost use mathlib.Core.Path.{_≡_};
 ghost use lib.ListN.{length};
 ghost use Rattle.refusals_sheet.specs.Numbers.{monthNumber};
 ghost use Rattle.result.specs.After.{monthAfter};
-use refusals_sheet::month_refusal;
+use refusals_sheet::record_number;
+use refusals_sheet::with_hours;
 use rules::Layout;
 
 mod consumers;
@@ -16,10 +17,9 @@ pub fn settle_month(s: &[u8], layout: Layout, out: &mut [u8]) -> u8
     ensures { λ r. ⌜ r ≡ monthNumber layout (now (s .entry)) (length (now (out .entry))) ⌝ }
     ensures buffer { λ r. ⌜ now (out .exit) ≡ monthAfter layout (now (s .entry)) (now (out .entry)) ⌝ }
 {
-    let number = month_refusal(s, layout, out.len());
+    let number = record_number(s, layout, out.len());
     if number != 0 {
-        return number;
+        return with_hours(s, layout, number);
     }
-    result::write_result(s, layout, out);
-    0
+    result::write_result(s, layout, out)
 }
