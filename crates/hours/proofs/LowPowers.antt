@@ -2,17 +2,15 @@
 use mathlib.Core.Path.{_≡_, refl, sym, ap, ap₂, _∙_}
 use mathlib.Core.Bool.{Bool, true, false}
 use mathlib.Core.List.{List}
-use Prim.Native.Nat.{ℕ, zero, suc, _+_, _-_, _*_, _/_, _%_, _≤_, _<_, zero-le, min}
-use native.Mathlib.Nat.{add-zero, mod-eq-of-lt}
+use Prim.Native.Nat.{ℕ, zero, suc, _+_, _-_, _*_, _/_, _%_, _≤_, _<_, zero-le}
+use native.Mathlib.Nat.{add-zero}
 use native.Mathlib.Omega.{arith}
-use lib.Bits.{bitOr, or-zero-l, or-zero-r}
 use lib.Dec.{eqb, leb, ltb}
 use lib.ListN.{length, getD}
 use borrow.Author.Tests.{eqb-true, eqb-false, eq-eqb, ne-eqb, leb-true, leb-false, ltb-true, not-true}
 use Rattle.rules.specs.Fields.{bigEndian}
 use Rattle.rules.specs.Range.{sum}
 use Rattle.rules.specs.Sheet.{series}
-use Rattle.laws.specs.Bounds.{mostWord}
 use Rattle.laws.proofs.Range.{sum-more, sum-same, sum-fold, sum-le, both, any-clear}
 use Rattle.laws.proofs.ControlHours.{sum-append}
 use Rattle.refusals_powers.specs.Powers.{lowPowers}
@@ -27,7 +25,7 @@ use Rattle.hours.specs.Low.{Zero, hourAt, LowHours, LowPart, lowMonth, W
 
 -- A low power has two bytes of 0, and is the number in the other two.
 module _ (s : List ℕ) (at : ℕ) where
-  four-bytes : bigEndian 4 s at ≡ ((getD s at 0 * 256 + getD s (at + 1) 0) * 256 + getD s (at + 2) 0) * 256 + getD s (at + 3) 0
+  pub four-bytes : bigEndian 4 s at ≡ ((getD s at 0 * 256 + getD s (at + 1) 0) * 256 + getD s (at + 2) 0) * 256 + getD s (at + 3) 0
   unfolding bigEndian
   four-bytes = simp add-zero (omega arith)
 

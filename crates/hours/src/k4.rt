@@ -1,14 +1,18 @@
 // k4's sums over the hours.
 ghost use mathlib.Core.Path.{_≡_};
-ghost use mathlib.Core.Bool.{true};
+ghost use mathlib.Core.Bool.{true, false};
 ghost use Prim.Native.Nat.{_+_, _*_, _<_, _≤_};
+ghost use lib.ListN.{length};
 ghost use Rattle.rules.specs.Sheet.{series};
+ghost use Rattle.refusals_powers.specs.Powers.{highPowers};
 ghost use Rattle.hours.specs.Series.{Stands, powerIn};
 ghost use Rattle.hours.specs.Sums.{K4Before, k4In};
 ghost use Rattle.hours.specs.Low.{LowPart, lowMonth};
+ghost use Rattle.hours.specs.Within.{withinMonth};
 use crate::low::low_sums;
 use crate::series::power;
 use crate::series::stands;
+use crate::within::within_sums;
 use rules::Series;
 use units::Tenths;
 ghost use Rattle.laws.specs.Bounds.{mostWord};
@@ -121,6 +125,36 @@ fn any_column(part: &[u8], working: u16, possible: u16, days: u8, summed: Tenths
     through_hours(none, part, w, p, 0, 3 * (days as usize), 8, summed)
 }
 
+// A month by column that the sums within the ceiling are for. Every column begins with a power of the part, and has three bytes after it.
+fn is_within(part: &[u8], working: u16, possible: u16, days: u8) -> bool
+    ensures { λ r. ⌜ r ≡ withinMonth (length (now (part .entry))) working possible days ⌝ }
+{
+    let bytes = 96 * (days as usize);
+    (working % 4 == 0)
+        & ((possible % 4 == 0)
+            & ((working as usize + bytes + 3 <= part.len())
+                & (possible as usize + bytes + 3 <= part.len())))
+}
+
+// The same by column, where no power of the part is above the ceiling. An S above it is as one at it.
+fn within_column(part: &[u8], working: u16, possible: u16, days: u8, summed: Tenths) -> K4
+    requires { ⌜ Stands (now part) (series working 4) (24 * days) × Stands (now part) (series possible 4) (24 * days) ⌝ }
+    requires { ⌜ highPowers (now part) ≡ false ⌝ }
+    ensures { λ r. ⌜ K4Before (powerIn (now (part .entry)) (series working 4)) (powerIn (now (part .entry)) (series possible 4)) (summed .0) (24 * days) r ⌝ }
+{
+    if is_within(part, working, possible, days) {
+        let least = summed.smaller(Tenths(Tenths::CEILING));
+        return within_sums(
+            part,
+            working as usize,
+            possible as usize,
+            24 * (days as usize),
+            least.0 as u32,
+        );
+    }
+    any_column(part, working, possible, days, summed)
+}
+
 // A month by column that the sums of low powers are for, with an S below 32,768. Every column begins with a power of the part.
 fn is_low(working: u16, possible: u16, days: u8, summed: Tenths) -> bool
     ensures { λ r. ⌜ r ≡ lowMonth working possible days (summed .0) ⌝ }
@@ -130,16 +164,10 @@ fn is_low(working: u16, possible: u16, days: u8, summed: Tenths) -> bool
 }
 
 // The same by column, where it may be known that every power of the part is low.
-fn by_column(
-    part: &[u8],
-    working: u16,
-    possible: u16,
-    days: u8,
-    summed: Tenths,
-    low: bool,
-) -> K4
+fn by_column(part: &[u8], working: u16, possible: u16, days: u8, summed: Tenths, low: bool) -> K4
     requires { ⌜ Stands (now part) (series working 4) (24 * days) × Stands (now part) (series possible 4) (24 * days) ⌝ }
     requires { ⌜ (low ≡ true → LowPart (now part)) ⌝ }
+    requires { ⌜ highPowers (now part) ≡ false ⌝ }
     ensures { λ r. ⌜ K4Before (powerIn (now (part .entry)) (series working 4)) (powerIn (now (part .entry)) (series possible 4)) (summed .0) (24 * days) r ⌝ }
 {
     if low & is_low(working, possible, days, summed) {
@@ -152,11 +180,11 @@ fn by_column(
             least,
         );
     }
-    any_column(part, working, possible, days, summed)
+    within_column(part, working, possible, days, summed)
 }
 
-// k4's sums over a month of so many days, for a summed capacity S. There are none where the part ends before the powers do. It may be known
-// that every power of the part is low.
+// k4's sums over a month of so many days, for a summed capacity S, where no power of the part is above the ceiling. There are none where the part
+// ends before the powers do. It may be known that every power of the part is low.
 pub(crate) fn k4_sums(
     part: &[u8],
     working: Series,
@@ -166,6 +194,7 @@ pub(crate) fn k4_sums(
     low: bool,
 ) -> K4
     requires { ⌜ (low ≡ true → LowPart (now part)) ⌝ }
+    requires { ⌜ highPowers (now part) ≡ false ⌝ }
     ensures { λ r. ⌜ r ≡ k4In (now (part .entry)) working possible days (summed .0) ⌝ }
     ensures fits { λ r. ⌜ (r .asked .0 ≤ mostWord * (24 * days)) × (r .met .0 ≤ mostWord * (24 * days)) ⌝ }
 {

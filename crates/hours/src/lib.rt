@@ -4,6 +4,7 @@ mod figures;
 mod k4;
 mod low;
 mod series;
+mod within;
 
 pub use control::average_to_tenth;
 pub use figures::HourFigures;

@@ -1,20 +1,11 @@
-use mathlib.Core.Path.{_≡_, sym, _∙_}
-use mathlib.Core.Bool.{Bool, true, false}
-use Prim.Native.Nat.{ℕ, _^_, _≤_, _<_, min}
+use mathlib.Core.Path.{sym, _∙_}
 use native.Mathlib.Omega.{arith}
-use lib.Signed.{ltZ}
-use lib.Dec.{ltb}
-use mir.Syntax.{Width, w16}
-use mir.Val.{toZ, hbits}
-use mir.Facts.{toZ-pos}
+use mir.Syntax.{w16}
 use borrow.Author.Tests.{ltb-true, ltb-false}
+use Rattle.hours.proofs.Signed.{signed-less}
 use borrow.Author.Needs.{needs}
 use Rattle.hours.proofs.low.smaller.Statement.{statement}
 use Rattle.hours.proofs.low.smaller.Tie as tie
-
--- Numbers in the lower half of a width are compared alike with a sign and without.
-signed-less : (w : Width) (a b : ℕ) → a < 2 ^ hbits w → b < 2 ^ hbits w → ltZ (toZ w a) (toZ w b) ≡ ltb a b
-signed-less w a b p q = rw (toZ-pos w p, toZ-pos w q)
 
 cast-x : tie.Need-cast-x
 cast-x c = search needs
