@@ -1,6 +1,6 @@
 -- Net power in a record's hours, and the peak that comes of it. Assumes nothing.
 use mathlib.Core.Path.{_≡_, refl, ap₂}
-use mathlib.Core.Bool.{Bool, true}
+use mathlib.Core.Bool.{true}
 use mathlib.Core.List.{List}
 use Prim.Native.Nat.{ℕ, _+_, _-_, _*_, _≤_, _<_}
 use native.Mathlib.Omega.{arith}
@@ -8,7 +8,6 @@ use borrow.Author.Tests.{le-leb}
 use lib.ListN.{length, drop, length-drop}
 use Rattle.rules.specs.declared.Header.{Header}
 use Rattle.rules.specs.declared.Series.{Series}
-use Rattle.rules.specs.Range.{listed}
 use Rattle.rules.specs.Month.{hours}
 use Rattle.rules.specs.Sheet.{power}
 use Rattle.rules.specs.Units.{tenth}
@@ -16,6 +15,7 @@ use Rattle.rules.specs.ControlTable.{tableDay}
 use Rattle.rules.specs.ComplexRecord.{recordWidth, imported, drawnSeries, sentSeries, drawn, sent}
 use Rattle.rules.specs.Averaging.{net, complexPeak}
 use Rattle.laws.proofs.Fields.{read-drop}
+use Rattle.calendar.specs.Days.{dayOn}
 use Rattle.hours.specs.Series.{stands, powerIn, hourlyStands, hourlyIn}
 use Rattle.hours.proofs.Known.{average-known}
 use Rattle.complex_record.specs.Net.{netPower, netAverage}
@@ -41,8 +41,8 @@ module _ (h : Header) (r : List ℕ) (long : recordWidth h ≤ length r) where
   net-read i b = ap₂ (λ (a b : ℕ). a - b) (read drawnSeries i) (read sentSeries i)
 
   -- In a month that the table has.
-  module _ (few : h .days ≤ 31) (from : 1 ≤ h .weekday) (to : h .weekday ≤ 7) {on : List Bool} (days : on ≡ listed (tableDay h) 256) where
+  module _ (few : h .days ≤ 31) (from : 1 ≤ h .weekday) (to : h .weekday ≤ 7) (on : ℕ) (days : (d : ℕ) → dayOn on d ≡ tableDay h d) where
     pub peak-known : {average taken peak : ℕ} → average ≡ netAverage r (h .days) on → taken ≡ imported r → peak ≡ average - taken
         → peak ≡ complexPeak h r
     unfolding complexPeak
-    peak-known averaged less is = rw (is, averaged, less, average-known h few from to days (drop 9 r) netPower (net r) both-stand net-read tenth)
+    peak-known averaged less is = rw (is, averaged, less, average-known h few from to on days (drop 9 r) netPower (net r) both-stand net-read tenth)

@@ -1,6 +1,5 @@
 -- Net power in a record, as the control average takes it.
 use Prim.Native.Nat.{ℕ}
-use mathlib.Core.Bool.{Bool}
 use mathlib.Core.List.{List}
 use lib.ListN.{drop}
 use Rattle.rules.specs.Units.{tenth}
@@ -12,6 +11,6 @@ use Rattle.hours.specs.Control.{averageIn}
 abbrev pub netPower : Hourly
 netPower = Hourly.Net drawnSeries sentSeries
 
--- Its average over the hours 17 to 22 of the days that are marked, to a tenth.
-abbrev pub netAverage : List ℕ → ℕ → List Bool → ℕ
+-- Its average over the hours 17 to 22 of the days whose bit is set, to a tenth.
+abbrev pub netAverage : List ℕ → ℕ → ℕ → ℕ
 netAverage r days on = averageIn tenth (drop recordFront r) netPower days on

@@ -23,7 +23,8 @@ returns : tie.Need-returns
 returns c =
     let a = c .before .before .before .before .before .before in
     let p = a .pre in
-    peak-known (a .args .h) (a .args .rec .now) (p .0) (p .1) (p .2) (p .3) (c .before .before .before .before .control-days .ensures)
+    let d = c .before .before .before .before .control-days in
+    peak-known (a .args .h) (a .args .rec .now) (p .0) (p .1) (p .2) (p .3) (d .result .on) (d .ensures)
     (c .before .before .before .net-average .ensures)
     (c .before .stated .ensures .0 ∙ c .before .before .imported .ensures)
     (c .less .ensures)
