@@ -1,5 +1,5 @@
 -- Number 9 of powers, taken together, and of a part. Assumes nothing.
-use mathlib.Core.Path.{_≡_, sym, ap}
+use mathlib.Core.Path.{_≡_, sym, ap, _∙_}
 use mathlib.Core.Bool.{Bool, _||_}
 use mathlib.Core.List.{List}
 use Prim.Native.Nat.{ℕ, _+_, _*_, _/_, _≤_}
@@ -16,17 +16,20 @@ use Rattle.refusals_powers.specs.Powers.{someFrom, highPowers, highFrom}
 there : (test : ℕ → Bool) (s : List ℕ) {a b : ℕ} → a ≡ b → test (bigEndian 4 s a) ≡ test (bigEndian 4 s b)
 there test s e = ap (λ (at : ℕ). test (bigEndian 4 s at)) e
 
--- Some of the first k powers and the n after them passes a test.
+-- Some of m powers from a place on, or of the n after them, passes a test.
+pub some-more : (test : ℕ → Bool) (s : List ℕ) (at m n : ℕ) {next all : ℕ} {b c : Bool} → next ≡ at + 4 * m → all ≡ m + n
+    → b ≡ someFrom test s at m → c ≡ someFrom test s next n → (b || c) ≡ someFrom test s at all
+some-more test s at m n {next} e f x y =
+    let same : someFrom test s next n ≡ any (λ i. test (bigEndian 4 s (at + 4 * (m + i)))) n = any-same _ _ n (λ i l. there test s (omega arith)) in
+    rw (x, y, same, f) (sym (any-append (λ i. test (bigEndian 4 s (at + 4 * i))) m n))
+
+-- The powers of a part, from its beginning on.
+pub from-start : (test : ℕ → Bool) (s : List ℕ) (n : ℕ) → someFrom test s 0 n ≡ any (λ i. test (bigEndian 4 s (4 * i))) n
+from-start test s n = any-same _ _ n (λ i l. there test s (omega arith))
+
 pub powers-more : (test : ℕ → Bool) (s : List ℕ) (k n at m : ℕ) {found t : Bool} → at ≡ 4 * k → k + n ≡ m
     → found ≡ any (λ i. test (bigEndian 4 s (4 * i))) k → t ≡ someFrom test s at n → (found || t) ≡ any (λ i. test (bigEndian 4 s (4 * i))) m
-powers-more test s k n at m e q x y =
-    let same : someFrom test s at n ≡ any (λ i. test (bigEndian 4 s (4 * (k + i)))) n = any-same _ _ n (λ i l. there test s (omega arith)) in
-    rw (x, y, same, ← q) (sym (any-append (λ i. test (bigEndian 4 s (4 * i))) k n))
-
--- All powers of a part, from its beginning on.
-pub from-start : (s : List ℕ) → highFrom s 0 (length s / 4) ≡ highPowers s
-unfolding highPowers
-from-start s = any-same _ _ (length s / 4) (λ i l. there tooHigh s (omega arith))
+powers-more test s k n at m e q x y = some-more test s 0 k n (omega arith) (sym q) (x ∙ sym (from-start test s k)) y ∙ from-start test s m
 
 -- The powers of the n bytes from a place on.
 pub part-high : (s : List ℕ) (at n count : ℕ) → n ≡ 4 * count → at + n ≤ length s → highPowers (take n (drop at s)) ≡ highFrom s at count

@@ -7,7 +7,6 @@ use lib.Bits.{bitOr, or-shr, or-mod, or-zero-l, or-add-and, and-le-r}
 use lib.Dec.{ltb}
 use borrow.Author.Tests.{ltb-true, ltb-false, lt-ltb, le-ltb}
 use Rattle.rules.specs.Refusals.{tooHigh}
-use Rattle.fields.proofs.Bits.{or-none}
 use Rattle.laws.proofs.Range.{or-swap}
 use Rattle.refusals_powers.specs.declared.Marks.{Marks}
 use Rattle.refusals_powers.specs.Marks.{marked, Turned}
@@ -40,10 +39,6 @@ marked-joined m n =
 pub none-told : marked (record { front = 0; above = 0 }) ≡ false
 unfolding marked
 none-told = refl
-
--- A joined number ends in 16 zeros where both do.
-pub or-last : (a b : ℕ) → bitOr a b % 65536 ≡ 0 → (a % 65536 ≡ 0) × (b % 65536 ≡ 0)
-or-last a b e = or-none (a % 65536) (b % 65536) (sym (or-mod a b 16) ∙ e)
 
 -- Of three numbers one is not 0 just where a fourth is above the ceiling.
 abbrev Tell : ℕ → ℕ → ℕ → ℕ → Type 0
@@ -90,10 +85,6 @@ module _ (x w : ℕ) (t : Turned x w) where
 
   pub end-of : w % 65536 ≡ t .first + t .second * 256
   end-of = omega arith
-
-  pub low-told : w % 65536 ≡ 0 → tooHigh x ≡ false
-  unfolding tooHigh
-  low-told e = le-ltb 100000 x (omega (arith, end-of))
 
   pub above-told : 8823296 ≤ w % 16777216 + w / 65536 → marked (record { front = w % 16777216; above = w % 16777216 }) ≡ tooHigh x
   unfolding marked tooHigh

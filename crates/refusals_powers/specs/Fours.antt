@@ -10,12 +10,13 @@ use Rattle.refusals_powers.specs.declared.Four.{Four}
 use Rattle.refusals_powers.specs.declared.Front.{Front}
 use Rattle.refusals_powers.specs.Powers.{someFrom, highPower, widePower}
 
--- A word, the front byte of its power lowest, has a bit in the two front bytes; or in the highest place of the third.
+-- A word, the front byte of its power lowest, has a bit in the two front bytes.
 unfoldable pub frontWord : ℕ → Bool
 frontWord w = ltb 0 (w % 65536)
 
+-- It has one there, or in the highest place of the third byte.
 unfoldable pub wideWord : ℕ → Bool
-wideWord w = ltb 0 (w % 65536) || ltb 0 (w / 8388608 % 2)
+wideWord w = frontWord w || ltb 0 (w / 8388608 % 2)
 
 -- One of four words passes a test.
 abbrev pub oneOfFour : (ℕ → Bool) → Four → Bool
@@ -27,12 +28,12 @@ front = oneOfFour frontWord
 abbrev pub wide : Four → Bool
 wide = oneOfFour wideWord
 
--- The joined bits of so many powers from a place on.
+-- What joined bits tell of so many powers from a place on.
 pub record Seen (x : Four) (s : List ℕ) (at count : ℕ) : Type 0 where
   pub front-is : front x ≡ someFrom (leb 65536) s at count
   pub wide-is : wide x ≡ someFrom (leb 32768) s at count
 
--- The first blocks: none of their powers is above the ceiling; and whether all blocks have powers below 32,768.
+-- The first blocks, with no power above the ceiling, and whether every power of all blocks is below 32,768.
 pub record Fronted (part : List ℕ) (x : Front) : Type 0 where
   pub few : x .blocks ≤ length part / 288
   pub none-high : any (highPower part) (72 * x .blocks) ≡ false

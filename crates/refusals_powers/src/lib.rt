@@ -1,15 +1,17 @@
 // Numbers 9 and 17 of powers that stand one after the other, as a producer's hours or those of a complex's record do. A power is taken as
-// it stands in the machine's word, so that one instruction serves four of them. A block of 72 powers, as many as a producer's day has, is
-// passed while each of its powers has two zero bytes at the front. From the first other block on every power leaves its marks, and the marks of all are tested once.
+// it stands in the machine's word, so that one instruction serves four of them. Blocks of 72 powers, as many as a producer's day has, are
+// tried some at a time, and passed while each of their powers has two zero bytes at the front. From the first that are not passed on every
+// power leaves its marks, and the marks of all are tested once.
 ghost use mathlib.Core.Path.{_≡_};
 ghost use mathlib.Core.Bool.{false, _||_};
-ghost use Prim.Native.Nat.{_+_, _-_, _*_, _/_, _%_, _^_, _<_, _≤_};
+ghost use Prim.Native.Nat.{_+_, _-_, _*_, _/_, _^_, _<_, _≤_};
 ghost use lib.ListN.{length};
+ghost use lib.Dec.{leb};
 ghost use Rattle.rules.specs.Range.{any};
 ghost use Rattle.rules.specs.Fields.{bigEndian};
 ghost use Rattle.rules.specs.Refusals.{tooHigh};
-ghost use Rattle.refusals_powers.specs.Powers.{highPower, highPowers, highFrom, powerTests};
-ghost use Rattle.refusals_powers.specs.Fours.{front, wide, Seen, Fronted};
+ghost use Rattle.refusals_powers.specs.Powers.{someFrom, highPower, highPowers, highFrom, powerTests};
+ghost use Rattle.refusals_powers.specs.Fours.{frontWord, front, wide, Seen, Fronted};
 ghost use Rattle.refusals_powers.specs.Marks.{marked, Turned};
 use fields::little_endian;
 use fields::word;
@@ -29,10 +31,10 @@ fn turned(s: &[u8], at: usize) -> u32
     little_endian(s[at], s[at + 1], s[at + 2], s[at + 3])
 }
 
-// The bits of so many powers from a place on.
+// The bits of so many powers from a place on, joined.
 fn bits_on(s: &[u8], at: usize, count: usize) -> u32
     requires { ⌜ at + 4 * count ≤ length (now s) ⌝ }
-    ensures { λ r. ⌜ (r % 65536 ≡ 0 → highFrom (now (s .entry)) at count ≡ false) ⌝ }
+    ensures { λ r. ⌜ frontWord r ≡ someFrom (leb 65536) (now (s .entry)) at count ⌝ }
 {
     let mut bits: u32 = 0;
     let mut i: usize = 0;
@@ -90,7 +92,7 @@ fn marks_on(s: &[u8], at: usize, count: usize) -> Marks
     m
 }
 
-// The bits of powers, joined: of the first, the second, the third and the last of each four, so that one instruction joins four powers.
+// The bits of powers, joined: of the first, the second, the third and the last of each four, so that one instruction joins four of them.
 struct Four {
     first: u32,
     second: u32,
@@ -141,7 +143,7 @@ fn fours_on(s: &[u8], at: usize, count: usize) -> Four
     seen
 }
 
-// Those of the blocks from one up to another.
+// Those of the blocks from one on to the one before another.
 fn blocks_on(part: &[u8], from: usize, to: usize) -> Four
     requires { ⌜ (from ≤ to) × (to ≤ length (now part) / 288) ⌝ }
     ensures { λ r. ⌜ Seen r (now (part .entry)) (288 * from) (72 * (to - from)) ⌝ }
@@ -160,14 +162,14 @@ fn blocks_on(part: &[u8], from: usize, to: usize) -> Four
     seen
 }
 
-// Four powers have a bit in their two front bytes: one of them is not below 65,536.
+// There is a bit in the two front bytes: some power is not below 65,536.
 fn has_front(x: Four) -> bool
     ensures { λ r. ⌜ r ≡ front x ⌝ }
 {
     0 < ((x.first | x.second) | (x.third | x.last)) % 65536
 }
 
-// One of them is not below 32,768.
+// There is one in them or in the highest place of the third byte: some power is not below 32,768.
 fn has_wide(x: Four) -> bool
     ensures { λ r. ⌜ r ≡ wide x ⌝ }
 {
@@ -175,7 +177,7 @@ fn has_wide(x: Four) -> bool
     (0 < bits % 65536) | (0 < bits / 8388608 % 2)
 }
 
-// The block that the blocks tried together go up to: the first alone, then five times as many as before them.
+// The block before which those that are tried together end. There are 1, 5, 25 of them and so on: three trials are enough for 31 days.
 fn tried_to(b: usize, blocks: usize) -> usize
     requires { ⌜ (b < blocks) × (blocks < 2 ^ 60) ⌝ }
     ensures { λ r. ⌜ (b < r) × (r ≤ blocks) ⌝ }
@@ -187,7 +189,7 @@ fn tried_to(b: usize, blocks: usize) -> usize
     }
 }
 
-// The blocks from the first on in which no power has a bit in its two front bytes, and whether each of their powers is below 32,768.
+// Blocks from the first on in which no power has a bit in its two front bytes, and whether every power of all blocks is below 32,768.
 struct Front {
     blocks: usize,
     low: bool,
@@ -214,7 +216,7 @@ fn low_blocks(part: &[u8]) -> Front
     Front { blocks: b, low }
 }
 
-// 9, of all whole blocks, where those before the first are low.
+// 9, of all whole blocks, where those before a first have no power above the ceiling.
 fn high_blocks(part: &[u8], first: usize) -> bool
     requires { ⌜ (first ≤ length (now part) / 288) × (any (highPower (now part)) (72 * first) ≡ false) ⌝ }
     ensures { λ r. ⌜ r ≡ any (highPower (now (part .entry))) (72 * (length (now (part .entry)) / 288)) ⌝ }

@@ -1,21 +1,23 @@
 use native.Mathlib.Omega.{arith}
-use mathlib.Core.Path.{_≡_}
-use mathlib.Core.Bool.{false}
-use Prim.Native.Nat.{_-_, _%_, _≤_, zero-le}
-use Rattle.laws.proofs.Range.{any-start, any-more, any-end}
-use Rattle.refusals_powers.specs.Powers.{highFrom}
-use Rattle.refusals_powers.proofs.Told.{or-last, low-told}
+use mathlib.Core.Path.{_≡_, sym, _∙_}
+use Prim.Native.Nat.{_-_, _≤_, zero-le}
+use lib.Dec.{leb}
+use Rattle.laws.proofs.Range.{any-start, any-fold, any-done}
+use Rattle.refusals_powers.specs.Powers.{someFrom}
+use Rattle.refusals_powers.specs.Fours.{frontWord}
+use Rattle.refusals_powers.proofs.Fours.{front-joined, front-told}
 use Rattle.refusals_powers.proofs.bits_on.Statement.{statement}
 use Rattle.refusals_powers.proofs.bits_on.Tie as tie
 
 abbrev Inv-loop : tie.InvT-loop
-Inv-loop s at count bits₀ i₀ bits i = (bits % 65536 ≡ 0 → highFrom s at i ≡ false) × (i ≤ count)
+Inv-loop s at count bits₀ i₀ bits i = (frontWord bits ≡ someFrom (leb 65536) s at i) × (i ≤ count)
 
 abbrev μ-loop : tie.MeasureT-loop
 μ-loop s at count bits₀ i₀ bits i = count - i
 
 loop-holds : tie.Need-loop-holds Inv-loop μ-loop
-loop-holds c = (λ e. any-start _, zero-le)
+unfolding frontWord
+loop-holds c = (sym (any-start _), zero-le)
 
 mul-turned : tie.Need-mul-turned Inv-loop μ-loop
 mul-turned c = omega arith
@@ -34,12 +36,12 @@ loop-less c = omega arith
 
 loop-again : tie.Need-loop-again Inv-loop μ-loop
 loop-again c = (
-  λ e. let both = or-last _ _ e in any-more _ _ (c .before .before .loop .inv .0 (both .0)) (low-told _ _ (c .turned .ensures) (both .1)),
+  front-joined _ _ ∙ any-fold _ _ (c .before .before .loop .inv .0) (front-told _ _ (c .turned .ensures)),
   omega arith,
 )
 
 returns : tie.Need-returns Inv-loop μ-loop
-returns c e = any-end _ (omega arith) (omega arith) (c .before .loop .inv .0 e)
+returns c = any-done _ (omega arith) (omega arith) (c .before .loop .inv .0)
 
 pub bits-on-spec : {M : Type 1} → statement M
 bits-on-spec =

@@ -1,5 +1,5 @@
 use native.Mathlib.Omega.{arith}
-use Prim.Native.Nat.{_-_, _*_, _≤_, zero-le}
+use Prim.Native.Nat.{_-_, _*_, _≤_}
 use Rattle.refusals_powers.specs.Fours.{Seen}
 use Rattle.refusals_powers.proofs.Fours.{seen-none, seen-more, seen-same}
 use borrow.Author.Needs.{needs}

@@ -1,5 +1,12 @@
+use native.Mathlib.Omega.{arith}
 use mathlib.Core.Path.{sym, _∙_}
+use Prim.Native.Nat.{_%_}
+use borrow.Author.Tests.{le-ltb}
+use Rattle.rules.specs.Refusals.{tooHigh}
+use Rattle.refusals_powers.specs.Powers.{highPowers}
+use Rattle.refusals_powers.specs.Fours.{frontWord}
 use Rattle.refusals_powers.proofs.Powers.{from-start}
+use Rattle.refusals_powers.proofs.Fours.{front-none}
 use borrow.Author.Needs.{needs}
 use Rattle.refusals_powers.proofs.high_together.Statement.{statement}
 use Rattle.refusals_powers.proofs.high_together.Tie as tie
@@ -8,7 +15,11 @@ bits-on-requires : tie.Need-bits-on-requires
 bits-on-requires c κs = search needs
 
 returns : tie.Need-returns
-returns c = sym (sym (from-start (c .before .before .before .args .part .now)) ∙ c .before .bits-on .ensures (c .if1 .taken))
+unfolding frontWord highPowers
+returns c =
+    let part = c .before .before .before .args .part .now in
+    let none = le-ltb 0 (c .before .bits-on .result % 65536) (omega (arith, c .if1 .taken)) in
+    sym (sym (from-start tooHigh part _) ∙ front-none part 0 _ (sym (c .before .bits-on .ensures) ∙ none))
 
 marks-on-requires : tie.Need-marks-on-requires
 marks-on-requires c κs = search needs
@@ -17,8 +28,9 @@ is-marked-requires : tie.Need-is-marked-requires
 is-marked-requires c κs = search needs
 
 returns-2 : tie.Need-returns-2
+unfolding highPowers
 returns-2 c =
-    c .is-marked .ensures ∙ c .before .marks-on .ensures ∙ from-start (c .before .before .before .before .before .args .part .now)
+    c .is-marked .ensures ∙ c .before .marks-on .ensures ∙ from-start tooHigh (c .before .before .before .before .before .args .part .now) _
 
 pub high-together-spec : {M : Type 1} → statement M
 high-together-spec =

@@ -37,18 +37,17 @@ has-front-requires c κs = search needs
 
 -- What is known of the blocks that were tried together.
 module _ (part : List ℕ) (b end : ℕ) (up : b ≤ end) (to : end ≤ length part / 288) {seen : Four} (s : Seen seen part (288 * b) (72 * (end - b))) where
+  wide-so-far : (any (widePower part) (72 * b) || wide seen) ≡ any (widePower part) (72 * end)
+  wide-so-far = powers-more (leb 32768) part (72 * b) (72 * (end - b)) (288 * b) (72 * end) (omega arith) (omega arith) refl (s .wide-is)
+
   found : front seen ≡ true → any (widePower part) (72 * (length part / 288)) ≡ true
   found e =
-      let here = front-wide part (288 * b) (72 * (end - b)) (sym (s .front-is) ∙ e) in
-      let so-far : (any (widePower part) (72 * b) || true) ≡ any (widePower part) (72 * end) = powers-more (leb 32768) part (72 * b) (72 * (end - b)) (288 * b) (72 * end) (omega arith) (omega arith) refl (sym here) in
-      still (widePower part) (72 * end) _ (omega arith) (sym so-far ∙ or-true (any (widePower part) (72 * b)))
+      let here : wide seen ≡ true = s .wide-is ∙ front-wide part (288 * b) (72 * (end - b)) (sym (s .front-is) ∙ e) in
+      still (widePower part) (72 * end) _ (omega arith) (sym wide-so-far ∙ rw here (or-true (any (widePower part) (72 * b))))
 
   none : front seen ≡ false → any (highPower part) (72 * b) ≡ false → any (highPower part) (72 * end) ≡ false
   none e before =
       sym (powers-more tooHigh part (72 * b) (72 * (end - b)) (288 * b) (72 * end) (omega arith) (omega arith) (sym before) (sym (front-none part (288 * b) (72 * (end - b)) (sym (s .front-is) ∙ e))))
-
-  wide-so-far : (any (widePower part) (72 * b) || wide seen) ≡ any (widePower part) (72 * end)
-  wide-so-far = powers-more (leb 32768) part (72 * b) (72 * (end - b)) (288 * b) (72 * end) (omega arith) (omega arith) refl (s .wide-is)
 
 returns : tie.Need-returns Inv-loop μ-loop
 returns c =
