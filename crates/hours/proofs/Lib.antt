@@ -2,6 +2,9 @@ pub mod Standing
 pub mod Turns
 pub mod Evenings
 pub mod Known
-pub mod LowPowers
 pub mod Signed
+pub mod LowPowers
+pub mod Lanes
+pub mod LowMonth
+pub mod Columns
 pub mod WithinCeiling

@@ -1,7 +1,9 @@
 -- What a settlement takes from a producer's hours.
-use Prim.Native.Nat.{ℕ}
-use mathlib.Core.Bool.{true, false, cond}
+use Prim.Native.Nat.{ℕ, _*_}
+use mathlib.Core.Bool.{Bool, true, false, cond, _&&_}
 use mathlib.Core.List.{List}
+use lib.Dec.{eqb, leb}
+use Rattle.rules.specs.declared.Series.{Series}
 use Rattle.rules.specs.declared.HourSeries.{HourSeries}
 use Rattle.rules.specs.Units.{hundredth}
 use Rattle.units.specs.Sums.{tenths, hundredths}
@@ -10,6 +12,17 @@ use Rattle.hours.specs.declared.figures.HourFigures.{HourFigures}
 use Rattle.hours.specs.declared.series.Hourly.{Hourly}
 use Rattle.hours.specs.Sums.{k4In}
 use Rattle.hours.specs.Control.{averageIn}
+
+-- Powers one after the other from a place on.
+unfoldable pub isColumn : Series → ℕ → Bool
+isColumn x start = eqb (x .step) 4 && eqb (x .start) start
+
+-- So many bytes are a month of columns: working powers, possible ones, outside uses.
+unfoldable pub inColumns : ℕ → HourSeries → ℕ → Bool
+inColumns bytes of days =
+    isColumn (of .working) 0
+    && (isColumn (of .possible) (96 * days)
+    && (isColumn (of .outside) (2 * (96 * days)) && (eqb bytes (3 * (96 * days)) && (leb 1 days && leb days 31))))
 
 -- Of hours without a power above the ceiling k4's sums, and the control average of outside use in hundredths; of others nothing but that.
 unfoldable pub hourFigures : List ℕ → HourSeries → ℕ → ℕ → ℕ → HourFigures

@@ -1,25 +1,20 @@
--- k4's sums over hours whose powers are low, below 32,768, so that their first two bytes are 0.
+-- k4's sums over a month by column whose powers are low, below 32,768, so that their first two bytes are 0. The hours of the first half of the month and
+-- those of the second take turns.
 use mathlib.Core.Path.{_≡_}
-use mathlib.Core.Bool.{Bool, cond, _&&_}
+use mathlib.Core.Bool.{cond}
 use mathlib.Core.List.{List}
-use Prim.Native.Nat.{ℕ, _+_, _*_, _/_, _%_, _≤_, _<_}
-use lib.Dec.{eqb, leb, ltb}
+use Prim.Native.Nat.{ℕ, zero, suc, _+_, _*_, _/_, _%_, _≤_, _<_, min}
+use lib.Bits.{bitOr}
+use lib.Dec.{eqb}
 use lib.ListN.{length, getD}
-use Rattle.rules.specs.Fields.{bigEndian}
 use Rattle.rules.specs.Range.{sum}
 use Rattle.rules.specs.Sheet.{series}
-use Rattle.units.specs.Sums.{added}
-use Rattle.hours.specs.declared.k4.K4.{K4}
-use Rattle.hours.specs.declared.low.Kept.{Kept}
-use Rattle.hours.specs.declared.low.Halves.{Halves}
+use Rattle.laws.proofs.Arrays.{Agrees}
+use Rattle.hours.specs.declared.low.Added.{Added}
+use Rattle.hours.specs.declared.low.Lanes.{Lanes}
 use Rattle.hours.specs.Series.{powerIn}
-use Rattle.hours.specs.Sums.{askedOf, metOf}
 
--- Two bytes from a place on are 0.
-abbrev pub Zero : List ℕ → ℕ → Type 0
-Zero s at = (getD s at 0 ≡ 0) × (getD s (at + 1) 0 ≡ 0)
-
--- The k-th of 2 × half hours, where those of the first and of the second half take turns.
+-- The hour of turn k, of 2 × half hours.
 unfoldable pub hourAt : ℕ → ℕ → ℕ
 hourAt half k = cond (eqb (k % 2) 0) (k / 2) (half + k / 2)
 
@@ -28,43 +23,83 @@ pub record LowHours (part : List ℕ) (start half : ℕ) : Type 0 where
   pub stand : start + 8 * half ≤ length part
   pub low : (i : ℕ) → i < 2 * half → powerIn part (series start 4) i ≤ 32767
 
--- Every power of a part is low.
-abbrev pub LowPart : List ℕ → Type 0
-LowPart part = (i : ℕ) → 4 * i + 4 ≤ length part → bigEndian 4 part (4 * i) ≤ 32767
+-- Two bytes from a place on, the first lowest; and the number whose bytes these are, without its highest bit.
+abbrev pub pairAt : List ℕ → ℕ → ℕ
+pairAt s at = getD s at 0 + getD s (at + 1) 0 * 256
 
--- A month that the sums of low powers are for: columns that begin with a power of the part, at least 22 days and at most 31, an S below 32,768.
-unfoldable pub lowMonth : ℕ → ℕ → ℕ → ℕ → Bool
-lowMonth working possible days S =
-    eqb (working % 4) 0 && (eqb (possible % 4) 0 && (leb 22 days && (leb days 31 && ltb S 32768)))
+abbrev pub turnedPair : ℕ → ℕ
+turnedPair x = x % 128 * 256 + x / 256
 
--- The sums with one hour more.
-abbrev pub WithMore : Kept → ℕ → Kept → Type 0
-WithMore k v r = (r .left ≡ (k .left + v) % 65536) × (r .upper ≡ k .upper + v / 256)
+-- What turn k reads of a column: two bytes in the first half of the month, two in the second, and the power that they are together if the column
+-- is low.
+abbrev pub nearPair : List ℕ → ℕ → ℕ → ℕ
+nearPair part start k = pairAt part (start + (2 + 2 * k))
 
-pub record HalvesMore (working possible : ℕ → ℕ) (S i : ℕ) (k r : Halves) : Type 0 where
-  pub asked-more : WithMore (k .asked) (askedOf possible S i) (r .asked)
-  pub met-more : WithMore (k .met) (metOf working possible S i) (r .met)
+abbrev pub farPair : List ℕ → ℕ → ℕ → ℕ → ℕ
+farPair part start half k = pairAt part (start + (4 * half + 2 * k))
 
--- What is kept of the sum of n numbers.
-abbrev pub KeptOf : (ℕ → ℕ) → ℕ → Kept → Type 0
-KeptOf f n k = (k .left ≡ sum f n % 65536) × (k .upper ≡ sum (λ i. f i / 256) n)
+abbrev pub turnPower : List ℕ → ℕ → ℕ → ℕ → ℕ
+turnPower part start half k = turnedPair (bitOr (nearPair part start k) (farPair part start half k))
 
--- The sums of n hours from one on, in the order in which the halves take turns.
-pub record HalvesBefore (working possible : ℕ → ℕ) (S half from n : ℕ) (k : Halves) : Type 0 where
-  pub asked-kept : KeptOf (λ i. askedOf possible S (hourAt half (from + i))) n (k .asked)
-  pub met-kept : KeptOf (λ i. metOf working possible S (hourAt half (from + i))) n (k .met)
+-- What it adds to its lane. Working powers stand at the part's front, possible ones after them.
+abbrev pub turnAsked : List ℕ → ℕ → ℕ → ℕ → ℕ
+turnAsked part half S k = min S (turnPower part (8 * half) half k)
 
--- The number that these two are kept of, where its lower bytes are below 65,536 in all.
+abbrev pub turnMet : List ℕ → ℕ → ℕ → ℕ → ℕ
+turnMet part half S k = min (turnAsked part half S k) (turnPower part 0 half k)
+
+abbrev pub turnNear : List ℕ → ℕ → ℕ → ℕ
+turnNear part half k = bitOr (nearPair part (8 * half) k) (nearPair part 0 k)
+
+abbrev pub turnFar : List ℕ → ℕ → ℕ → ℕ
+turnFar part half k = bitOr (farPair part (8 * half) half k) (farPair part 0 half k)
+
+abbrev pub turnAdds : List ℕ → ℕ → ℕ → ℕ → Added
+turnAdds part half S k =
+    record { asked = turnAsked part half S k; met = turnMet part half S k; near = turnNear part half k; far = turnFar part half k }
+
+-- Numbers joined.
+unfoldable pub allBits : (ℕ → ℕ) → ℕ → ℕ
+allBits g zero = 0
+allBits g (suc n) = bitOr (allBits g n) (g n)
+
+-- Lane i has every eighth turn, from turn i on: what it holds after n of them.
+abbrev pub leftIn : (ℕ → ℕ) → ℕ → ℕ → ℕ
+leftIn f i n = sum (λ t. f (8 * t + i)) n % 65536
+
+abbrev pub upperIn : (ℕ → ℕ) → ℕ → ℕ → ℕ
+upperIn f i n = sum (λ t. f (8 * t + i) / 256) n
+
+abbrev pub bitsIn : (ℕ → ℕ) → ℕ → ℕ → ℕ
+bitsIn g i n = allBits (λ t. g (8 * t + i)) n
+
+-- Lanes of which each has had so many turns.
+pub record LanesBy (part : List ℕ) (half S : ℕ) (turns : ℕ → ℕ) (k : Lanes) : Type 0 where
+  pub asked-are : Agrees 8 0 (λ i. leftIn (turnAsked part half S) i (turns i)) (k .asked)
+  pub upper-are : Agrees 8 0 (λ i. upperIn (turnAsked part half S) i (turns i)) (k .upper)
+  pub met-are : Agrees 8 0 (λ i. leftIn (turnMet part half S) i (turns i)) (k .met)
+  pub over-are : Agrees 8 0 (λ i. upperIn (turnMet part half S) i (turns i)) (k .over)
+  pub near-are : Agrees 8 0 (λ i. bitsIn (turnNear part half) i (turns i)) (k .near)
+  pub far-are : Agrees 8 0 (λ i. bitsIn (turnFar part half) i (turns i)) (k .far)
+
+-- All of them so many.
+abbrev pub LanesAfter : List ℕ → ℕ → ℕ → ℕ → Lanes → Type 0
+LanesAfter part half S q k = LanesBy part half S (λ i. q) k
+
+-- The number that is left as one and has upper bytes of another in all, where its lower ones are below 65,536 in all.
 pub record Whole (left upper r : ℕ) : Type 0 where
   pub left-is : r % 65536 ≡ left
   pub from-upper : upper * 256 ≤ r
   pub to-upper : r < upper * 256 + 65536
 
--- k4's sums with those of more hours.
-pub record K4More (k : K4) (more : Halves) (r : K4) : Type 0 where
-  pub asked : ℕ
-  pub asked-whole : Whole (more .asked .left) (more .asked .upper) asked
-  pub asked-is : r .asked .0 ≡ added (k .asked .0) asked
-  pub met : ℕ
-  pub met-whole : Whole (more .met .left) (more .met .upper) met
-  pub met-is : r .met .0 ≡ added (k .met .0) met
+-- What eight lanes keep of the sum of 8 × q numbers is that sum.
+abbrev pub LanesSum : List ℕ → List ℕ → ℕ → Type 0
+LanesSum left upper r =
+    (f : ℕ → ℕ) (q : ℕ) → q ≤ 256 → Agrees 8 0 (λ i. leftIn f i q) left → Agrees 8 0 (λ i. upperIn f i q) upper → r ≡ sum f (8 * q)
+
+-- In eight lanes no bit where first two bytes of powers were read, and none in the highest place where last two were.
+pub record Clear (near far : List ℕ) : Type 0 where
+  pub near-fronts : (i : ℕ) → i < 4 → getD near (2 * i + 1) 0 ≡ 0
+  pub far-fronts : (i : ℕ) → i < 4 → getD far (2 * i) 0 ≡ 0
+  pub near-others : (i : ℕ) → i < 4 → getD near (2 * i) 0 / 128 % 2 ≡ 0
+  pub far-others : (i : ℕ) → i < 4 → getD far (2 * i + 1) 0 / 128 % 2 ≡ 0

@@ -1,14 +1,23 @@
-// What a settlement takes from a producer's hours, in one pass over them to know how high the powers are and one to sum them.
+// What a settlement takes from a producer's hours: number 9, k4's sums and the control average of outside use. Low powers by column are tried and summed in
+// one pass.
 ghost use mathlib.Core.Path.{_≡_};
+ghost use mathlib.Core.Bool.{true, false};
 ghost use Prim.Native.Nat.{_*_, _≤_};
+ghost use lib.ListN.{length};
 ghost use Rattle.laws.specs.Bounds.{mostWord};
-ghost use Rattle.hours.specs.Figures.{hourFigures};
+ghost use Rattle.refusals_powers.specs.Powers.{highPowers};
+ghost use Rattle.hours.specs.Sums.{k4In};
+ghost use Rattle.hours.specs.Figures.{isColumn, inColumns, hourFigures};
 use crate::control::outside_average;
 use crate::k4::K4;
 use crate::k4::k4_sums;
+use crate::low::LowSums;
+use crate::low::low_sums;
 use calendar::ControlDays;
-use refusals_powers::power_tests;
+use fields::word;
+use refusals_powers::high_powers;
 use rules::HourSeries;
+use rules::Series;
 use units::Hundredths;
 use units::Tenths;
 
@@ -17,6 +26,84 @@ pub struct HourFigures {
     pub high: bool,
     pub sums: K4,
     pub average: Hundredths,
+}
+
+// The part has a month of columns and nothing else: working powers, possible ones, outside uses.
+fn in_columns(part: &[u8], of: HourSeries, days: u8) -> bool
+    ensures { λ r. ⌜ r ≡ inColumns (length (now (part .entry))) of days ⌝ }
+{
+    let working = of.working;
+    let possible = of.possible;
+    let outside = of.outside;
+    let column = 96 * (days as usize);
+    is_column(working, 0)
+        & (is_column(possible, column)
+            & (is_column(outside, 2 * column)
+                & ((part.len() == 3 * column) & ((1 <= days) & (days <= 31)))))
+}
+
+// Powers one after the other from a place on.
+fn is_column(x: Series, start: usize) -> bool
+    ensures { λ r. ⌜ r ≡ isColumn x start ⌝ }
+{
+    (x.step == 4) & (x.start as usize == start)
+}
+
+// k4's sums of a month of columns, where all working and possible powers are low and no outside use is above the ceiling.
+fn low_columns(part: &[u8], of: HourSeries, days: u8, summed: Tenths) -> LowSums
+    ensures { λ r. ⌜ (r .low ≡ true → (highPowers (now (part .entry)) ≡ false) × (r .sums ≡ k4In (now (part .entry)) (of .working) (of .possible) days (summed .0))
+        × (r .sums .asked .0 ≤ mostWord * (24 * days)) × (r .sums .met .0 ≤ mostWord * (24 * days))) ⌝ }
+{
+    let none = LowSums {
+        low: false,
+        sums: K4 {
+            asked: Tenths(0),
+            met: Tenths(0),
+        },
+    };
+    let column = 96 * (days as usize);
+    if !(in_columns(part, of, days) & (summed.0 <= 32767)) {
+        return none;
+    }
+    if (32767 < word(part, 0)) | (32767 < word(part, column)) {
+        return none;
+    }
+    let outside = 2 * column;
+    if high_powers(&part[outside..]) {
+        return none;
+    }
+    low_sums(part, days as usize, summed.0 as u16)
+}
+
+// The figures where not all is low, or the part has no columns.
+fn other_figures(
+    part: &[u8],
+    of: HourSeries,
+    days: u8,
+    summed: Tenths,
+    control: ControlDays,
+) -> HourFigures
+    ensures { λ r. ⌜ r ≡ hourFigures (now (part .entry)) of days (summed .0) (control .on) ⌝ }
+    ensures fits { λ r. ⌜ (r .sums .asked .0 ≤ mostWord * (24 * days)) × (r .sums .met .0 ≤ mostWord * (24 * days)) × (r .average .0 ≤ 10 * mostWord) ⌝ }
+{
+    if high_powers(part) {
+        let none = K4 {
+            asked: Tenths(0),
+            met: Tenths(0),
+        };
+        return HourFigures {
+            high: true,
+            sums: none,
+            average: Hundredths(0),
+        };
+    }
+    let sums = k4_sums(part, of.working, of.possible, days, summed);
+    let average = outside_average(part, of.outside, days, control);
+    HourFigures {
+        high: false,
+        sums,
+        average,
+    }
 }
 
 // The figures of a month of so many days, for a summed capacity S; of hours with a power above the ceiling there are none but that.
@@ -30,19 +117,11 @@ pub fn hour_figures(
     ensures { λ r. ⌜ r ≡ hourFigures (now (part .entry)) of days (summed .0) (control .on) ⌝ }
     ensures fits { λ r. ⌜ (r .sums .asked .0 ≤ mostWord * (24 * days)) × (r .sums .met .0 ≤ mostWord * (24 * days)) × (r .average .0 ≤ 10 * mostWord) ⌝ }
 {
-    let tests = power_tests(part);
-    if tests.high {
-        let none = K4 {
-            asked: Tenths(0),
-            met: Tenths(0),
-        };
-        return HourFigures {
-            high: true,
-            sums: none,
-            average: Hundredths(0),
-        };
+    let first = low_columns(part, of, days, summed);
+    if !first.low {
+        return other_figures(part, of, days, summed, control);
     }
-    let sums = k4_sums(part, of.working, of.possible, days, summed, tests.low);
+    let sums = first.sums;
     let average = outside_average(part, of.outside, days, control);
     HourFigures {
         high: false,

@@ -1,15 +1,13 @@
 // k4's sums over the hours.
 ghost use mathlib.Core.Path.{_≡_};
-ghost use mathlib.Core.Bool.{true, false};
+ghost use mathlib.Core.Bool.{false};
 ghost use Prim.Native.Nat.{_+_, _*_, _<_, _≤_};
 ghost use lib.ListN.{length};
 ghost use Rattle.rules.specs.Sheet.{series};
 ghost use Rattle.refusals_powers.specs.Powers.{highPowers};
 ghost use Rattle.hours.specs.Series.{Stands, powerIn};
 ghost use Rattle.hours.specs.Sums.{K4Before, k4In};
-ghost use Rattle.hours.specs.Low.{LowPart, lowMonth};
 ghost use Rattle.hours.specs.Within.{withinMonth};
-use crate::low::low_sums;
 use crate::series::power;
 use crate::series::stands;
 use crate::within::within_sums;
@@ -155,45 +153,15 @@ fn within_column(part: &[u8], working: u16, possible: u16, days: u8, summed: Ten
     any_column(part, working, possible, days, summed)
 }
 
-// A month by column that the sums of low powers are for, with an S below 32,768. Every column begins with a power of the part.
-fn is_low(working: u16, possible: u16, days: u8, summed: Tenths) -> bool
-    ensures { λ r. ⌜ r ≡ lowMonth working possible days (summed .0) ⌝ }
-{
-    (working % 4 == 0)
-        & ((possible % 4 == 0) & ((22 <= days) & ((days <= 31) & (summed.0 < 32768))))
-}
-
-// The same by column, where it may be known that every power of the part is low.
-fn by_column(part: &[u8], working: u16, possible: u16, days: u8, summed: Tenths, low: bool) -> K4
-    requires { ⌜ Stands (now part) (series working 4) (24 * days) × Stands (now part) (series possible 4) (24 * days) ⌝ }
-    requires { ⌜ (low ≡ true → LowPart (now part)) ⌝ }
-    requires { ⌜ highPowers (now part) ≡ false ⌝ }
-    ensures { λ r. ⌜ K4Before (powerIn (now (part .entry)) (series working 4)) (powerIn (now (part .entry)) (series possible 4)) (summed .0) (24 * days) r ⌝ }
-{
-    if low & is_low(working, possible, days, summed) {
-        let least = (summed.0 % 32768) as u16;
-        return low_sums(
-            part,
-            working as usize,
-            possible as usize,
-            days as usize,
-            least,
-        );
-    }
-    within_column(part, working, possible, days, summed)
-}
-
 // k4's sums over a month of so many days, for a summed capacity S, where no power of the part is above the ceiling. There are none where the part
-// ends before the powers do. It may be known that every power of the part is low.
+// ends before the powers do.
 pub(crate) fn k4_sums(
     part: &[u8],
     working: Series,
     possible: Series,
     days: u8,
     summed: Tenths,
-    low: bool,
 ) -> K4
-    requires { ⌜ (low ≡ true → LowPart (now part)) ⌝ }
     requires { ⌜ highPowers (now part) ≡ false ⌝ }
     ensures { λ r. ⌜ r ≡ k4In (now (part .entry)) working possible days (summed .0) ⌝ }
     ensures fits { λ r. ⌜ (r .asked .0 ≤ mostWord * (24 * days)) × (r .met .0 ≤ mostWord * (24 * days)) ⌝ }
@@ -207,7 +175,7 @@ pub(crate) fn k4_sums(
         return none;
     }
     if (working.step == 4) & (possible.step == 4) {
-        return by_column(part, working.start, possible.start, days, summed, low);
+        return within_column(part, working.start, possible.start, days, summed);
     }
     if (working.step == 12) & (possible.step == 12) {
         return by_hour(part, working.start, possible.start, days, summed);

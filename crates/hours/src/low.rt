@@ -1,27 +1,36 @@
-// k4's sums over a month by column whose powers are all low, below 32,768, so that their first two bytes are 0. The last two bytes of hour i and the
-// first two of the hour half a month later are read as 16 bits and joined, then the first two of hour i + 1 and the last two of the other, and so on: each
-// time the power of one of the two hours. One instruction serves eight hours.
+// k4's sums over a month by column whose powers are all low, below 32,768, so that their first two bytes are 0. The last two bytes of a power and the
+// first two of the power half a month later are read as 16 bits and joined, then the first two of the next power and the last two of the other, and so on
+// in turn: each time it is the power of one of the two hours. Eight turns are taken at once, each in a lane of its own, and the bits that a power
+// would leave that is not low are kept, so that nothing need be known of the powers beforehand.
 ghost use mathlib.Core.Path.{_≡_};
-ghost use Prim.Native.Nat.{_+_, _*_, _/_, _%_, _<_, _≤_, min};
+ghost use mathlib.Core.Bool.{true};
+ghost use Prim.Native.Nat.{ℕ, _+_, _*_, _/_, _%_, _<_, _≤_, min};
 ghost use lib.ListN.{length, getD};
 ghost use Rattle.rules.specs.Fields.{bigEndian};
 ghost use Rattle.rules.specs.Sheet.{series};
 ghost use Rattle.hours.specs.Series.{powerIn};
 ghost use Rattle.hours.specs.Sums.{K4Before};
-ghost use Rattle.hours.specs.Low.{Zero, hourAt, LowHours, HalvesMore, HalvesBefore, Whole, K4More};
+ghost use Rattle.hours.specs.Low.{pairAt, turnedPair, turnAdds, LanesAfter, Whole, LanesSum, Clear, LowHours};
 use crate::k4::K4;
 use units::Tenths;
 
-// A sum, as what is left of it where it begins again at 0 past 65,535, and the sum of the upper bytes of what was added.
-struct Kept {
-    left: u16,
-    upper: u16,
+// What eight lanes hold: the sums of m and of what was met of it, which past 65,535 begin again at 0, the sums of their upper bytes, and the bits of all
+// pairs that were read from the first half of the month and from the second.
+struct Lanes {
+    asked: [u16; 8],
+    upper: [u16; 8],
+    met: [u16; 8],
+    over: [u16; 8],
+    near: [u16; 8],
+    far: [u16; 8],
 }
 
-// Over some hours: the sums of m and of what was met of it.
-struct Halves {
-    asked: Kept,
-    met: Kept,
+// What one turn adds to its lane.
+struct Added {
+    asked: u16,
+    met: u16,
+    near: u16,
+    far: u16,
 }
 
 fn wide(b: u8) -> u16
@@ -33,26 +42,16 @@ fn wide(b: u8) -> u16
 // Two bytes, the first lowest.
 fn pair(s: &[u8], at: usize) -> u16
     requires { ⌜ at + 2 ≤ length (now s) ⌝ }
-    ensures { λ r. ⌜ (r ≡ getD (now (s .entry)) at 0 + getD (now (s .entry)) (at + 1) 0 * 256) × (getD (now (s .entry)) at 0 ≤ 255) × (getD (now (s .entry)) (at + 1) 0 ≤ 255) ⌝ }
+    ensures { λ r. ⌜ (r ≡ pairAt (now (s .entry)) at) × (r ≤ 65535) ⌝ }
 {
     wide(s[at]) + wide(s[at + 1]) * 256
 }
 
-// The number in the two bytes at the one place or at the other, where the bytes at the other are 0.
-fn either(s: &[u8], one: usize, other: usize) -> u16
-    requires { ⌜ (one + 2 ≤ length (now s)) × (other + 2 ≤ length (now s)) ⌝ }
-    ensures { λ r. ⌜ (Zero (now (s .entry)) other → r ≡ bigEndian 2 (now (s .entry)) one) × (Zero (now (s .entry)) one → r ≡ bigEndian 2 (now (s .entry)) other) ⌝ }
+// The number whose bytes these are, without its highest bit.
+fn turned(x: u16) -> u16
+    ensures { λ r. ⌜ (r ≡ turnedPair x) × (r ≤ 32767) ⌝ }
 {
-    let x = pair(s, one) | pair(s, other);
-    x % 256 * 256 + x / 256
-}
-
-// The k-th low power of a column of two halves, in the order in which they are joined.
-fn low_power(s: &[u8], start: usize, half: usize, k: usize) -> u16
-    requires { ⌜ LowHours (now s) start half × (k < 2 * half) ⌝ }
-    ensures { λ r. ⌜ (r ≡ powerIn (now (s .entry)) (series start 4) (hourAt half k)) × (r ≤ 32767) ⌝ }
-{
-    either(s, start + 2 + 2 * k, start + 4 * half + 2 * k)
+    x % 128 * 256 + x / 256
 }
 
 // Compared with a sign, for which the machine has an instruction.
@@ -65,103 +64,133 @@ fn smaller(a: u16, b: u16) -> u16
     if x < y { a } else { b }
 }
 
-fn with_more(k: Kept, v: u16) -> Kept
-    requires { ⌜ (v ≤ 32767) × (k .upper ≤ 65000) ⌝ }
-    ensures { λ r. ⌜ (r .left ≡ (k .left + v) % 65536) × (r .upper ≡ k .upper + v / 256) ⌝ }
+// What turn k of a month of two halves adds. Working powers stand at the part's front, possible ones after them.
+fn added_at(part: &[u8], half: usize, k: usize, summed: u16) -> Added
+    requires { ⌜ (16 * half ≤ length (now part)) × (k < 2 * half) × (summed ≤ 32767) ⌝ }
+    ensures { λ r. ⌜ r ≡ turnAdds (now (part .entry)) half summed k ⌝ }
 {
-    Kept {
-        left: std::num::wrapping_add_u16(k.left, v),
-        upper: k.upper + v / 256,
+    let near = 2 + 2 * k;
+    let far = 4 * half + 2 * k;
+    let column = 8 * half;
+    let a = pair(part, column + near);
+    let b = pair(part, column + far);
+    let c = pair(part, near);
+    let d = pair(part, far);
+    let asked = smaller(summed, turned(a | b));
+    let met = smaller(asked, turned(c | d));
+    Added {
+        asked,
+        met,
+        near: a | c,
+        far: b | d,
     }
 }
 
-// The sums with the k-th hour.
-fn with_low(
-    sums: Halves,
-    part: &[u8],
-    working: usize,
-    possible: usize,
-    half: usize,
-    k: usize,
-    summed: u16,
-) -> Halves
-    requires { ⌜ LowHours (now part) working half × LowHours (now part) possible half × (k < 2 * half) ⌝ }
-    requires { ⌜ (summed ≤ 32767) × (sums .asked .upper ≤ 65000) × (sums .met .upper ≤ 65000) ⌝ }
-    ensures { λ r. ⌜ HalvesMore (powerIn (now (part .entry)) (series working 4)) (powerIn (now (part .entry)) (series possible 4)) summed (hourAt half k) sums r ⌝ }
+// The lanes after eight turns more.
+fn with_eight(k: Lanes, part: &[u8], half: usize, q: usize, summed: u16) -> Lanes
+    requires { ⌜ (16 * half ≤ length (now part)) × (8 * q + 8 ≤ 2 * half) × (summed ≤ 32767) × (q < 256) ⌝ }
+    requires { ⌜ LanesAfter (now part) half summed q k ⌝ }
+    ensures { λ r. ⌜ LanesAfter (now (part .entry)) half summed (q + 1) r ⌝ }
 {
-    let m = smaller(summed, low_power(part, possible, half, k));
-    let met = smaller(m, low_power(part, working, half, k));
-    Halves {
-        asked: with_more(sums.asked, m),
-        met: with_more(sums.met, met),
-    }
-}
-
-// The sums of so many hours, at most 256, in that order.
-fn low_hours(
-    part: &[u8],
-    working: usize,
-    possible: usize,
-    half: usize,
-    from: usize,
-    count: usize,
-    summed: u16,
-) -> Halves
-    requires { ⌜ LowHours (now part) working half × LowHours (now part) possible half × (from + count ≤ 2 * half) ⌝ }
-    requires { ⌜ (summed ≤ 32767) × (count ≤ 256) ⌝ }
-    ensures { λ r. ⌜ HalvesBefore (powerIn (now (part .entry)) (series working 4)) (powerIn (now (part .entry)) (series possible 4)) summed half from count r ⌝ }
-{
-    let none = Kept { left: 0, upper: 0 };
-    let mut sums = Halves {
-        asked: none,
-        met: none,
-    };
+    let mut r = k;
     let mut i: usize = 0;
-    while i < count {
-        sums = with_low(sums, part, working, possible, half, from + i, summed);
+    while i < 8 {
+        let x = added_at(part, half, 8 * q + i, summed);
+        r.asked[i] = std::num::wrapping_add_u16(r.asked[i], x.asked);
+        r.upper[i] = r.upper[i] + x.asked / 256;
+        r.met[i] = std::num::wrapping_add_u16(r.met[i], x.met);
+        r.over[i] = r.over[i] + x.met / 256;
+        r.near[i] = r.near[i] | x.near;
+        r.far[i] = r.far[i] | x.far;
         i += 1;
     }
-    sums
+    r
 }
 
-// The sum itself, where that of the lower bytes is below 65,536.
-fn whole(k: Kept) -> u64
-    ensures { λ r. ⌜ Whole (k .left) (k .upper) r ⌝ }
+// The lanes after all turns of a month of so many days.
+fn all_lanes(part: &[u8], days: usize, summed: u16) -> Lanes
+    requires { ⌜ (192 * days ≤ length (now part)) × (days ≤ 31) × (summed ≤ 32767) ⌝ }
+    ensures { λ r. ⌜ LanesAfter (now (part .entry)) (12 * days) summed (3 * days) r ⌝ }
 {
-    let lower = std::num::wrapping_sub_u16(k.left, k.upper % 256 * 256);
-    k.upper as u64 * 256 + lower as u64
-}
-
-// k4's sums with these.
-fn with_halves(k: K4, more: Halves) -> K4
-    ensures { λ r. ⌜ K4More k more r ⌝ }
-{
-    K4 {
-        asked: k.asked.plus(Tenths(whole(more.asked))),
-        met: k.met.plus(Tenths(whole(more.met))),
-    }
-}
-
-// k4's sums over a month: 256 hours, the next 256, and all others.
-pub(crate) fn low_sums(part: &[u8], working: usize, possible: usize, days: usize, summed: u16) -> K4
-    requires { ⌜ LowHours (now part) working (12 * days) × LowHours (now part) possible (12 * days) × (22 ≤ days) × (days ≤ 31) × (summed ≤ 32767) ⌝ }
-    ensures { λ r. ⌜ K4Before (powerIn (now (part .entry)) (series working 4)) (powerIn (now (part .entry)) (series possible 4)) summed (24 * days) r ⌝ }
-{
-    let half = 12 * days;
-    let none = K4 {
-        asked: Tenths(0),
-        met: Tenths(0),
+    let none: [u16; 8] = [0; 8];
+    let mut k = Lanes {
+        asked: none,
+        upper: none,
+        met: none,
+        over: none,
+        near: none,
+        far: none,
     };
-    let first = with_halves(
-        none,
-        low_hours(part, working, possible, half, 0, 256, summed),
-    );
-    let second = with_halves(
-        first,
-        low_hours(part, working, possible, half, 256, 256, summed),
-    );
-    with_halves(
-        second,
-        low_hours(part, working, possible, half, 512, 24 * days - 512, summed),
-    )
+    let mut q: usize = 0;
+    while q < 3 * days {
+        k = with_eight(k, part, 12 * days, q, summed);
+        q += 1;
+    }
+    k
+}
+
+// A sum from what is left of it and the sum of its upper bytes, where that of the lower ones is below 65,536.
+fn whole(left: u16, upper: u16) -> u64
+    ensures { λ r. ⌜ Whole left upper r × (r ≤ 16842495) ⌝ }
+{
+    let lower = std::num::wrapping_sub_u16(left, upper % 256 * 256);
+    upper as u64 * 256 + lower as u64
+}
+
+// The sum over all lanes.
+fn lanes_sum(left: [u16; 8], upper: [u16; 8]) -> u64
+    ensures { λ r. ⌜ LanesSum left upper r × (r ≤ 134739960) ⌝ }
+{
+    let mut sum: u64 = 0;
+    let mut i: usize = 0;
+    while i < 8 {
+        sum = sum + whole(left[i], upper[i]);
+        i += 1;
+    }
+    sum
+}
+
+// No power was read that is not low: no bit in the pairs that are first two bytes, and none in the highest place of the others.
+fn is_clear(near: [u16; 8], far: [u16; 8]) -> bool
+    ensures { λ r. ⌜ (r ≡ true → Clear near far) ⌝ }
+{
+    let mut fronts: u16 = 0;
+    let mut others: u16 = 0;
+    let mut i: usize = 0;
+    while i < 4 {
+        fronts = fronts | (near[2 * i + 1] | far[2 * i]);
+        others = others | (near[2 * i] | far[2 * i + 1]);
+        i += 1;
+    }
+    (fronts == 0) & (others / 128 % 2 == 0)
+}
+
+// k4's sums, and whether they are right because all powers are low.
+pub(crate) struct LowSums {
+    pub(crate) low: bool,
+    pub(crate) sums: K4,
+}
+
+// Of a month of so many days whose first powers are low.
+pub(crate) fn low_sums(part: &[u8], days: usize, summed: u16) -> LowSums
+    requires { ⌜ (192 * days ≤ length (now part)) × (1 ≤ days) × (days ≤ 31) × (summed ≤ 32767) ⌝ }
+    requires { ⌜ (bigEndian 4 (now part) 0 ≤ 32767) × (bigEndian 4 (now part) (96 * days) ≤ 32767) ⌝ }
+    ensures { λ r. ⌜ (r .low ≡ true → LowHours (now (part .entry)) 0 (12 * days) × LowHours (now (part .entry)) (96 * days) (12 * days)
+        × K4Before (powerIn (now (part .entry)) (series 0 4)) (powerIn (now (part .entry)) (series (96 * days) 4)) summed (24 * days) (r .sums)) ⌝ }
+{
+    let k = all_lanes(part, days, summed);
+    let asked = k.asked;
+    let upper = k.upper;
+    let met = k.met;
+    let over = k.over;
+    let near = k.near;
+    let far = k.far;
+    let sums = K4 {
+        asked: Tenths(lanes_sum(asked, upper)),
+        met: Tenths(lanes_sum(met, over)),
+    };
+    LowSums {
+        low: is_clear(near, far),
+        sums,
+    }
 }

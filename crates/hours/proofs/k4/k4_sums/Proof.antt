@@ -63,14 +63,14 @@ returns c =
     let none = not-true (c .before .before .stands .result && c .before .stands2 .result) (c .if1 .taken) in
     (rw (sym (c .before .before .stands .ensures), sym (c .before .stands2 .ensures), none), (zero-le, zero-le))
 
-by-column-requires : tie.Need-by-column-requires
-by-column-requires c κs =
+within-column-requires : tie.Need-within-column-requires
+within-column-requires c κs =
     let s = c .before .before .before .before .before .before .before in
     let a = s .args in
     (stand-apart (a .part .now) (a .working) (a .possible) (a .days) 0 (standing (c .before .before .before)) 4 (c .if2 .taken), s .pre)
 
 returns-2 : tie.Need-returns-2
-returns-2 c = all-apart _ _ _ _ _ (standing (c .before .before .before .before)) 4 (c .before .if2 .taken) (c .by-column .ensures)
+returns-2 c = all-apart _ _ _ _ _ (standing (c .before .before .before .before)) 4 (c .before .if2 .taken) (c .within-column .ensures)
 
 by-hour-requires : tie.Need-by-hour-requires
 by-hour-requires c κs =
@@ -100,7 +100,7 @@ k4-sums-spec =
     stands-requires
     stands-requires-2
     returns
-    by-column-requires
+    within-column-requires
     returns-2
     by-hour-requires
     returns-3

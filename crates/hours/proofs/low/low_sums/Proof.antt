@@ -1,63 +1,73 @@
 use native.Mathlib.Omega.{arith}
-use Prim.Native.Nat.{_-_, _*_}
-use Rattle.hours.proofs.LowPowers.{no-turns, turns-more, all-turns}
-use Rattle.hours.proofs.Turns.{k4-same}
+use mathlib.Core.Path.{_≡_, sym, ap, _∙_}
+use mathlib.Core.List.{List}
+use Prim.Native.Nat.{ℕ, _*_, _≤_}
+use lib.ListN.{length}
+use Rattle.rules.specs.Fields.{bigEndian}
+use Rattle.rules.specs.Range.{sum}
+use Rattle.rules.specs.Sheet.{series}
+use Rattle.units.specs.Sums.{tenths}
+use Rattle.hours.specs.declared.low.Lanes.{Lanes}
+use Rattle.hours.specs.Series.{powerIn}
+use Rattle.hours.specs.Sums.{K4Before}
+use Rattle.hours.specs.Low.{LowHours, turnAsked, turnMet, LanesAfter, LanesSum, Clear}
+use Rattle.hours.proofs.LowPowers.{Bytes}
+use Rattle.hours.proofs.LowMonth.{working-low, possible-low, all-asked, all-met}
 use borrow.Author.Needs.{needs}
 use Rattle.hours.proofs.low.low_sums.Statement.{statement}
 use Rattle.hours.proofs.low.low_sums.Tie as tie
 
-mul-half : tie.Need-mul-half
-mul-half c = search needs
+-- The sums of clear lanes.
+module _ (part : List ℕ) (bytes : Bytes part) (days S : ℕ) (stand : 192 * days ≤ length part) (some : 1 ≤ days) (few : days ≤ 31)
+    (first : bigEndian 4 part 0 ≤ 32767) (second : bigEndian 4 part (96 * days) ≤ 32767)
+    {k : Lanes} (lanes : LanesAfter part (12 * days) S (3 * days) k) (clear : Clear (k .near) (k .far)) where
+  place : 8 * (12 * days) ≡ 96 * days
+  place = omega arith
 
-low-hours-requires : tie.Need-low-hours-requires
-low-hours-requires c κs = search needs
+  working : LowHours part 0 (12 * days)
+  working = working-low part bytes (12 * days) (3 * days) S (omega arith) lanes clear (omega arith) first
 
-with-halves-requires : tie.Need-with-halves-requires
-with-halves-requires c κs = search needs
+  possible : LowHours part (8 * (12 * days)) (12 * days)
+  possible = possible-low part bytes (12 * days) (3 * days) S (omega arith) lanes clear (omega arith) (rw place second)
 
-low-hours-requires-2 : tie.Need-low-hours-requires-2
-low-hours-requires-2 c κs =
-    let p = c .before .before .before .pre in
-    ((p .0, p .1, omega (arith, p .2)), (p .4, omega arith))
+  all : {asked met : ℕ} → LanesSum (k .asked) (k .upper) asked → LanesSum (k .met) (k .over) met → asked ≤ 134739960 → met ≤ 134739960
+      → LowHours part 0 (12 * days) × LowHours part (96 * days) (12 * days)
+      × K4Before (powerIn part (series 0 4)) (powerIn part (series (96 * days) 4)) S (24 * days) (record { asked = tenths asked; met = tenths met })
+  all a m la lm =
+      let hours : 2 * (12 * days) ≡ 24 * days = omega arith in
+      let turns : 8 * (3 * days) ≡ 2 * (12 * days) = omega arith in
+      let asked = a (turnAsked part (12 * days) S) (3 * days) (omega arith) (lanes .asked-are) (lanes .upper-are) in
+      let met = m (turnMet part (12 * days) S) (3 * days) (omega arith) (lanes .met-are) (lanes .over-are) in (
+        working,
+        rw (← place) possible,
+        (
+          rw (← place, ← hours) (asked ∙ ap (sum (turnAsked part (12 * days) S)) turns ∙ all-asked part bytes (12 * days) S working possible),
+          rw (← place, ← hours) (met ∙ ap (sum (turnMet part (12 * days) S)) turns ∙ all-met part bytes (12 * days) S working possible),
+          omega arith,
+          omega arith,
+        ),
+      )
 
-with-halves-requires-2 : tie.Need-with-halves-requires-2
-with-halves-requires-2 c κs = search needs
+all-lanes-requires : tie.Need-all-lanes-requires
+all-lanes-requires c κs = search needs
 
-mul-low-hours : tie.Need-mul-low-hours
-mul-low-hours c = search needs
+lanes-sum-requires : tie.Need-lanes-sum-requires
+lanes-sum-requires c κs = search needs
 
-sub-low-hours : tie.Need-sub-low-hours
-sub-low-hours c = search needs
+lanes-sum-requires-2 : tie.Need-lanes-sum-requires-2
+lanes-sum-requires-2 c κs = search needs
 
-low-hours-requires-3 : tie.Need-low-hours-requires-3
-low-hours-requires-3 c κs =
-    let p = c .before .before .before .before .before .pre in
-    ((p .0, p .1, omega (arith, p .2)), (p .4, omega (arith, p .3)))
-
-with-halves-requires-3 : tie.Need-with-halves-requires-3
-with-halves-requires-3 c κs = search needs
+is-clear-requires : tie.Need-is-clear-requires
+is-clear-requires c κs = search needs
 
 returns : tie.Need-returns
-returns c =
-    let s = c .before .before .before .before .before .before .before in
-    let low = s .pre .4 in
-    let days = s .args .days in
-    let one = turns-more _ _ _ _ low 0 256 (omega arith) (omega arith) (no-turns _ _ _ _ low) (c .before .before .before .before .before .low-hours .ensures) (c .before .before .before .before .with-halves .ensures) in
-    let two = turns-more _ _ _ _ low 256 256 (omega arith) (omega arith) one (c .before .before .before .low-hours2 .ensures) (c .before .before .with-halves2 .ensures) in
-    let three = turns-more _ _ _ _ low 512 (24 * days - 512) (omega (arith, s .pre .3)) (omega (arith, s .pre .3)) two (c .before .low-hours3 .ensures) (c .with-halves3 .ensures) in
-    k4-same _ _ _ (omega (arith, s .pre .2)) (all-turns _ _ _ _ low (omega (arith, s .pre .2)) three)
+returns c e =
+    let s = c .before .before .before .before .before .before .before .before .before .before .before in
+    let p = s .pre .0 in
+    all (s .args .part .now) (λ i. omega (arith, c .before .before .before .before .before .before .before .before .before .before .shared-slice-known .given i)) (s .args .days) (s .args .summed) (p .0) (p .1) (p .2) (s .pre .1 .0) (s .pre .1 .1) (c .before .before .before .before .before .before .before .before .before .all-lanes .ensures) (c .is-clear .ensures e)
+    (c .before .before .lanes-sum .ensures .0) (c .before .lanes-sum2 .ensures .0) (c .before .before .lanes-sum .ensures .1) (c .before .lanes-sum2 .ensures .1)
 
 pub low-sums-spec : {M : Type 1} → statement M
 low-sums-spec =
     tie.close
-    (tie.spec
-    mul-half
-    low-hours-requires
-    with-halves-requires
-    low-hours-requires-2
-    with-halves-requires-2
-    mul-low-hours
-    sub-low-hours
-    low-hours-requires-3
-    with-halves-requires-3
-    returns)
+    (tie.spec all-lanes-requires lanes-sum-requires lanes-sum-requires-2 is-clear-requires returns)
