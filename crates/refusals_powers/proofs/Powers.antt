@@ -10,7 +10,7 @@ use Rattle.rules.specs.Fields.{bigEndian}
 use Rattle.rules.specs.Refusals.{tooHigh}
 use Rattle.laws.proofs.Range.{any-append, any-same}
 use Rattle.laws.proofs.Fields.{read-part}
-use Rattle.refusals_powers.specs.Powers.{someFrom, highPowers, highFrom}
+use Rattle.refusals_powers.specs.Powers.{highPower, highPowers, someFrom, highFrom}
 
 -- The test of a power whose place has two names.
 there : (test : ℕ → Bool) (s : List ℕ) {a b : ℕ} → a ≡ b → test (bigEndian 4 s a) ≡ test (bigEndian 4 s b)
@@ -24,12 +24,12 @@ some-more test s at m n {next} e f x y =
     rw (x, y, same, f) (sym (any-append (λ i. test (bigEndian 4 s (at + 4 * i))) m n))
 
 -- The powers of a part, from its beginning on.
-pub from-start : (test : ℕ → Bool) (s : List ℕ) (n : ℕ) → someFrom test s 0 n ≡ any (λ i. test (bigEndian 4 s (4 * i))) n
-from-start test s n = any-same _ _ n (λ i l. there test s (omega arith))
+pub from-start : (s : List ℕ) (n : ℕ) → highFrom s 0 n ≡ any (highPower s) n
+from-start s n = any-same _ _ n (λ i l. there tooHigh s (omega arith))
 
-pub powers-more : (test : ℕ → Bool) (s : List ℕ) (k n at m : ℕ) {found t : Bool} → at ≡ 4 * k → k + n ≡ m
-    → found ≡ any (λ i. test (bigEndian 4 s (4 * i))) k → t ≡ someFrom test s at n → (found || t) ≡ any (λ i. test (bigEndian 4 s (4 * i))) m
-powers-more test s k n at m e q x y = some-more test s 0 k n (omega arith) (sym q) (x ∙ sym (from-start test s k)) y ∙ from-start test s m
+pub powers-more : (s : List ℕ) (k n at m : ℕ) {found t : Bool} → at ≡ 4 * k → k + n ≡ m → found ≡ any (highPower s) k → t ≡ highFrom s at n
+    → (found || t) ≡ any (highPower s) m
+powers-more s k n at m e q x y = some-more tooHigh s 0 k n (omega arith) (sym q) (x ∙ sym (from-start s k)) y ∙ from-start s m
 
 -- The powers of the n bytes from a place on.
 pub part-high : (s : List ℕ) (at n count : ℕ) → n ≡ 4 * count → at + n ≤ length s → highPowers (take n (drop at s)) ≡ highFrom s at count

@@ -1,21 +1,12 @@
 -- Numbers 9 and 17 of powers that stand one after the other, four bytes each.
-use Prim.Native.Nat.{ℕ, _+_, _*_, _/_, _%_}
-use mathlib.Core.Bool.{Bool, not, _&&_}
+use Prim.Native.Nat.{ℕ, _+_, _*_, _/_}
+use mathlib.Core.Bool.{Bool}
 use mathlib.Core.List.{List}
 use lib.ListN.{length}
-use lib.Dec.{eqb, leb}
+use lib.Dec.{leb}
 use Rattle.rules.specs.Range.{any}
 use Rattle.rules.specs.Fields.{bigEndian}
 use Rattle.rules.specs.Refusals.{tooHigh}
-use Rattle.refusals_powers.specs.declared.PowerTests.{PowerTests}
-
--- Some power of so many from a place on passes a test.
-abbrev pub someFrom : (ℕ → Bool) → List ℕ → ℕ → ℕ → Bool
-someFrom test s at count = any (λ i. test (bigEndian 4 s (at + 4 * i))) count
-
--- Some of them is above the ceiling.
-abbrev pub highFrom : List ℕ → ℕ → ℕ → Bool
-highFrom = someFrom tooHigh
 
 -- Power i of a part is above the ceiling.
 abbrev pub highPower : List ℕ → ℕ → Bool
@@ -25,14 +16,14 @@ highPower s i = tooHigh (bigEndian 4 s (4 * i))
 unfoldable pub highPowers : List ℕ → Bool
 highPowers s = any (highPower s) (length s / 4)
 
--- Power i of a part is not below 32,768.
-abbrev pub widePower : List ℕ → ℕ → Bool
-widePower s i = leb 32768 (bigEndian 4 s (4 * i))
+-- Some power of so many from a place on passes a test.
+abbrev pub someFrom : (ℕ → Bool) → List ℕ → ℕ → ℕ → Bool
+someFrom test s at count = any (λ i. test (bigEndian 4 s (at + 4 * i))) count
 
--- A part has whole blocks, of 72 powers each, and every power is below 32,768.
-unfoldable pub lowPowers : List ℕ → Bool
-lowPowers s = eqb (length s % 288) 0 && not (any (widePower s) (length s / 4))
+-- Some of them is above the ceiling.
+abbrev pub highFrom : List ℕ → ℕ → ℕ → Bool
+highFrom = someFrom tooHigh
 
--- What is to be known of a part's powers before they are summed.
-abbrev pub powerTests : List ℕ → PowerTests
-powerTests s = record { high = highPowers s; low = lowPowers s }
+-- Some of them is not below 65,536, so that it has a bit in its two front bytes.
+abbrev pub frontFrom : List ℕ → ℕ → ℕ → Bool
+frontFrom = someFrom (leb 65536)

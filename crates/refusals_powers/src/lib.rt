@@ -1,17 +1,16 @@
 // Numbers 9 and 17 of powers that stand one after the other, as a producer's hours or those of a complex's record do. A power is taken as
 // it stands in the machine's word, so that one instruction serves four of them. Blocks of 72 powers, as many as a producer's day has, are
 // tried some at a time, and passed while each of their powers has two zero bytes at the front. From the first that are not passed on every
-// power leaves its marks, and the marks of all are tested once.
+// power leaves its marks, and the marks of all are tested once. Those after the last block are passed in the same way, or tried one by one.
 ghost use mathlib.Core.Path.{_≡_};
 ghost use mathlib.Core.Bool.{false, _||_};
 ghost use Prim.Native.Nat.{_+_, _-_, _*_, _/_, _^_, _<_, _≤_};
 ghost use lib.ListN.{length};
-ghost use lib.Dec.{leb};
 ghost use Rattle.rules.specs.Range.{any};
 ghost use Rattle.rules.specs.Fields.{bigEndian};
 ghost use Rattle.rules.specs.Refusals.{tooHigh};
-ghost use Rattle.refusals_powers.specs.Powers.{someFrom, highPower, highPowers, highFrom, powerTests};
-ghost use Rattle.refusals_powers.specs.Fours.{frontWord, front, wide, Seen, Fronted};
+ghost use Rattle.refusals_powers.specs.Powers.{highPower, highPowers, highFrom, frontFrom};
+ghost use Rattle.refusals_powers.specs.Fours.{frontWord, front};
 ghost use Rattle.refusals_powers.specs.Marks.{marked, Turned};
 use fields::little_endian;
 use fields::word;
@@ -34,7 +33,7 @@ fn turned(s: &[u8], at: usize) -> u32
 // The bits of so many powers from a place on, joined.
 fn bits_on(s: &[u8], at: usize, count: usize) -> u32
     requires { ⌜ at + 4 * count ≤ length (now s) ⌝ }
-    ensures { λ r. ⌜ frontWord r ≡ someFrom (leb 65536) (now (s .entry)) at count ⌝ }
+    ensures { λ r. ⌜ frontWord r ≡ frontFrom (now (s .entry)) at count ⌝ }
 {
     let mut bits: u32 = 0;
     let mut i: usize = 0;
@@ -103,7 +102,7 @@ struct Four {
 // The bits of four powers from a place on.
 fn four_at(s: &[u8], at: usize) -> Four
     requires { ⌜ at + 16 ≤ length (now s) ⌝ }
-    ensures { λ r. ⌜ Seen r (now (s .entry)) at 4 ⌝ }
+    ensures { λ r. ⌜ front r ≡ frontFrom (now (s .entry)) at 4 ⌝ }
 {
     Four {
         first: turned(s, at),
@@ -114,7 +113,7 @@ fn four_at(s: &[u8], at: usize) -> Four
 }
 
 fn both(x: Four, y: Four) -> Four
-    ensures { λ r. ⌜ (front r ≡ (front x || front y)) × (wide r ≡ (wide x || wide y)) ⌝ }
+    ensures { λ r. ⌜ front r ≡ (front x || front y) ⌝ }
 {
     Four {
         first: x.first | y.first,
@@ -127,7 +126,7 @@ fn both(x: Four, y: Four) -> Four
 // Those of so many times four powers from a place on.
 fn fours_on(s: &[u8], at: usize, count: usize) -> Four
     requires { ⌜ at + 16 * count ≤ length (now s) ⌝ }
-    ensures { λ r. ⌜ Seen r (now (s .entry)) at (4 * count) ⌝ }
+    ensures { λ r. ⌜ front r ≡ frontFrom (now (s .entry)) at (4 * count) ⌝ }
 {
     let mut seen = Four {
         first: 0,
@@ -146,7 +145,7 @@ fn fours_on(s: &[u8], at: usize, count: usize) -> Four
 // Those of the blocks from one on to the one before another.
 fn blocks_on(part: &[u8], from: usize, to: usize) -> Four
     requires { ⌜ (from ≤ to) × (to ≤ length (now part) / 288) ⌝ }
-    ensures { λ r. ⌜ Seen r (now (part .entry)) (288 * from) (72 * (to - from)) ⌝ }
+    ensures { λ r. ⌜ front r ≡ frontFrom (now (part .entry)) (288 * from) (72 * (to - from)) ⌝ }
 {
     let mut seen = Four {
         first: 0,
@@ -169,14 +168,6 @@ fn has_front(x: Four) -> bool
     0 < ((x.first | x.second) | (x.third | x.last)) % 65536
 }
 
-// There is one in them or in the highest place of the third byte: some power is not below 32,768.
-fn has_wide(x: Four) -> bool
-    ensures { λ r. ⌜ r ≡ wide x ⌝ }
-{
-    let bits = (x.first | x.second) | (x.third | x.last);
-    (0 < bits % 65536) | (0 < bits / 8388608 % 2)
-}
-
 // The block before which those that are tried together end. There are 1, 5, 25 of them and so on: three trials are enough for 31 days.
 fn tried_to(b: usize, blocks: usize) -> usize
     requires { ⌜ (b < blocks) × (blocks < 2 ^ 60) ⌝ }
@@ -189,31 +180,20 @@ fn tried_to(b: usize, blocks: usize) -> usize
     }
 }
 
-// Blocks from the first on in which no power has a bit in its two front bytes, and whether every power of all blocks is below 32,768.
-struct Front {
-    blocks: usize,
-    low: bool,
-}
-
-fn low_blocks(part: &[u8]) -> Front
-    ensures { λ r. ⌜ Fronted (now (part .entry)) r ⌝ }
+// Blocks from the first on in which no power has a bit in its two front bytes: none of them is above the ceiling.
+fn low_blocks(part: &[u8]) -> usize
+    ensures { λ r. ⌜ (r ≤ length (now (part .entry)) / 288) × (any (highPower (now (part .entry))) (72 * r) ≡ false) ⌝ }
 {
     let blocks = part.len() / 288;
-    let mut low = true;
     let mut b: usize = 0;
     while b < blocks {
         let end = tried_to(b, blocks);
-        let seen = blocks_on(part, b, end);
-        if has_front(seen) {
-            return Front {
-                blocks: b,
-                low: false,
-            };
+        if has_front(blocks_on(part, b, end)) {
+            return b;
         }
-        low = low & !has_wide(seen);
         b = end;
     }
-    Front { blocks: b, low }
+    b
 }
 
 // 9, of all whole blocks, where those before a first have no power above the ceiling.
@@ -244,31 +224,27 @@ fn one_by_one(s: &[u8], at: usize, count: usize) -> bool
     found
 }
 
-// What is to be known of a part's powers before they are summed: some is above the ceiling, which is number 9; the part has whole blocks
-// of powers below 32,768.
-pub struct PowerTests {
-    pub high: bool,
-    pub low: bool,
-}
-
-// Of the powers of a part, whatever they are and in whatever order.
-pub fn power_tests(part: &[u8]) -> PowerTests
-    ensures { λ r. ⌜ r ≡ powerTests (now (part .entry)) ⌝ }
+// 9, of the powers after the last whole block, so many from a place on. Those in whole fours are passed where they have no bit in the two
+// front bytes; what is not passed is tried one by one.
+fn rest_high(part: &[u8], at: usize, count: usize) -> bool
+    requires { ⌜ at + 4 * count ≤ length (now part) ⌝ }
+    ensures { λ r. ⌜ r ≡ highFrom (now (part .entry)) at count ⌝ }
 {
-    let blocks = part.len() / 288;
-    let front = low_blocks(part);
-    let high = high_blocks(part, front.blocks)
-        | one_by_one(part, 288 * blocks, part.len() / 4 - 72 * blocks);
-    let low = (part.len() % 288 == 0) & front.low;
-    PowerTests { high, low }
+    let fours = count / 4;
+    let mut from: usize = 4 * fours;
+    if has_front(fours_on(part, at, fours)) {
+        from = 0;
+    }
+    one_by_one(part, at + 4 * from, count - from)
 }
 
-// 9, of the powers of a part.
+// 9, of the powers of a part, whatever they are and in whatever order.
 pub fn high_powers(part: &[u8]) -> bool
     ensures { λ r. ⌜ r ≡ highPowers (now (part .entry)) ⌝ }
 {
-    let x = power_tests(part);
-    x.high
+    let blocks = part.len() / 288;
+    high_blocks(part, low_blocks(part))
+        | rest_high(part, 288 * blocks, part.len() / 4 - 72 * blocks)
 }
 
 // The same of a part that is tried by itself, as a record is: all of its powers are one block. It is a function of its own, so that each of

@@ -1,16 +1,15 @@
 use native.Mathlib.Omega.{arith}
 use mathlib.Core.Path.{_≡_, sym, _∙_}
 use Prim.Native.Nat.{_-_, _≤_, zero-le}
-use lib.Dec.{leb}
 use Rattle.laws.proofs.Range.{any-start, any-fold, any-done}
-use Rattle.refusals_powers.specs.Powers.{someFrom}
+use Rattle.refusals_powers.specs.Powers.{frontFrom}
 use Rattle.refusals_powers.specs.Fours.{frontWord}
 use Rattle.refusals_powers.proofs.Fours.{front-joined, front-told}
 use Rattle.refusals_powers.proofs.bits_on.Statement.{statement}
 use Rattle.refusals_powers.proofs.bits_on.Tie as tie
 
 abbrev Inv-loop : tie.InvT-loop
-Inv-loop s at count bits₀ i₀ bits i = (frontWord bits ≡ someFrom (leb 65536) s at i) × (i ≤ count)
+Inv-loop s at count bits₀ i₀ bits i = (frontWord bits ≡ frontFrom s at i) × (i ≤ count)
 
 abbrev μ-loop : tie.MeasureT-loop
 μ-loop s at count bits₀ i₀ bits i = count - i

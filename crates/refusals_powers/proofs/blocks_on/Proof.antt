@@ -1,19 +1,24 @@
 use native.Mathlib.Omega.{arith}
 use Prim.Native.Nat.{_-_, _*_, _≤_}
-use Rattle.refusals_powers.specs.Fours.{Seen}
-use Rattle.refusals_powers.proofs.Fours.{seen-none, seen-more, seen-same}
+use lib.Dec.{leb}
+use mathlib.Core.Path.{_≡_, _∙_}
+use Rattle.laws.proofs.Range.{any-done}
+use Rattle.refusals_powers.specs.Powers.{frontFrom}
+use Rattle.refusals_powers.specs.Fours.{front}
+use Rattle.refusals_powers.proofs.Powers.{some-more}
+use Rattle.refusals_powers.proofs.Fours.{four-none}
 use borrow.Author.Needs.{needs}
 use Rattle.refusals_powers.proofs.blocks_on.Statement.{statement}
 use Rattle.refusals_powers.proofs.blocks_on.Tie as tie
 
 abbrev Inv-loop : tie.InvT-loop
-Inv-loop part from to seen₀ b₀ seen b = Seen seen part (288 * from) (72 * (b - from)) × (from ≤ b) × (b ≤ to)
+Inv-loop part from to seen₀ b₀ seen b = (front seen ≡ frontFrom part (288 * from) (72 * (b - from))) × (from ≤ b) × (b ≤ to)
 
 abbrev μ-loop : tie.MeasureT-loop
 μ-loop part from to seen₀ b₀ seen b = to - b
 
 loop-holds : tie.Need-loop-holds Inv-loop μ-loop
-loop-holds c = (seen-same _ _ (omega arith) (seen-none _ _), omega arith, c .before .pre .0)
+loop-holds c = (any-done _ (omega arith) (omega arith) (four-none _ _), omega arith, c .before .pre .0)
 
 mul-fours-on : tie.Need-mul-fours-on Inv-loop μ-loop
 mul-fours-on c = omega (arith, c .before .before .before .pre .1)
@@ -31,10 +36,10 @@ loop-less : tie.Need-loop-less Inv-loop μ-loop
 loop-less c = omega arith
 
 loop-again : tie.Need-loop-again Inv-loop μ-loop
-loop-again c = (seen-more _ _ _ _ (omega arith) (omega arith) (c .before .before .before .loop .inv .0) (c .before .fours-on .ensures) (c .both .ensures), omega arith, omega arith)
+loop-again c = (c .both .ensures ∙ some-more (leb 65536) _ _ _ _ (omega arith) (omega arith) (c .before .before .before .loop .inv .0) (c .before .fours-on .ensures), omega arith, omega arith)
 
 returns : tie.Need-returns Inv-loop μ-loop
-returns c = seen-same _ _ (omega arith) (c .before .loop .inv .0)
+returns c = any-done _ (omega arith) (omega arith) (c .before .loop .inv .0)
 
 pub blocks-on-spec : {M : Type 1} → statement M
 blocks-on-spec =

@@ -1,6 +1,4 @@
-use lib.Dec.{leb}
-use Rattle.refusals_powers.specs.Fours.{frontWord, wideWord}
-use Rattle.refusals_powers.proofs.Fours.{front-told, wide-told, four-read}
+use Rattle.refusals_powers.proofs.Fours.{four-read}
 use borrow.Author.Needs.{needs}
 use Rattle.refusals_powers.proofs.four_at.Statement.{statement}
 use Rattle.refusals_powers.proofs.four_at.Tie as tie
@@ -28,15 +26,7 @@ turned-requires-4 c κs = search needs
 
 returns : tie.Need-returns
 returns c =
-    let a = c .before .before .before .before .before in
-    let one = c .before .before .before .turned .ensures in
-    let two = c .before .before .turned2 .ensures in
-    let three = c .before .turned3 .ensures in
-    let four = c .turned4 .ensures in
-    record {
-      front-is = four-read (leb 65536) frontWord (a .args .s .now) (a .args .at) (front-told _ _ one) (front-told _ _ two) (front-told _ _ three) (front-told _ _ four);
-      wide-is = four-read (leb 32768) wideWord (a .args .s .now) (a .args .at) (wide-told _ _ one) (wide-told _ _ two) (wide-told _ _ three) (wide-told _ _ four);
-    }
+    four-read _ _ (c .before .before .before .turned .ensures) (c .before .before .turned2 .ensures) (c .before .turned3 .ensures) (c .turned4 .ensures)
 
 pub four-at-spec : {M : Type 1} → statement M
 four-at-spec =

@@ -4,7 +4,6 @@ use mathlib.Core.Path.{_≡_, sym, _∙_}
 use Prim.Native.Nat.{_*_, _/_, _-_, _≤_}
 use lib.ListN.{length}
 use Rattle.rules.specs.Range.{any}
-use Rattle.rules.specs.Refusals.{tooHigh}
 use Rattle.laws.proofs.Range.{any-done}
 use Rattle.refusals_powers.specs.Powers.{highPower}
 use Rattle.refusals_powers.specs.Marks.{marked}
@@ -39,7 +38,7 @@ loop-less c = omega arith
 
 loop-again : tie.Need-loop-again Inv-loop μ-loop
 loop-again c = (
-  c .joined .ensures ∙ powers-more tooHigh _ _ 72 _ _ (omega arith) (omega arith) (c .before .before .before .loop .inv .0) (c .before .marks-on .ensures),
+  c .joined .ensures ∙ powers-more _ _ 72 _ _ (omega arith) (omega arith) (c .before .before .before .loop .inv .0) (c .before .marks-on .ensures),
   omega arith,
 )
 

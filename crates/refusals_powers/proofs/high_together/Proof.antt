@@ -2,7 +2,6 @@ use native.Mathlib.Omega.{arith}
 use mathlib.Core.Path.{sym, _∙_}
 use Prim.Native.Nat.{_%_}
 use borrow.Author.Tests.{le-ltb}
-use Rattle.rules.specs.Refusals.{tooHigh}
 use Rattle.refusals_powers.specs.Powers.{highPowers}
 use Rattle.refusals_powers.specs.Fours.{frontWord}
 use Rattle.refusals_powers.proofs.Powers.{from-start}
@@ -19,7 +18,7 @@ unfolding frontWord highPowers
 returns c =
     let part = c .before .before .before .args .part .now in
     let none = le-ltb 0 (c .before .bits-on .result % 65536) (omega (arith, c .if1 .taken)) in
-    sym (sym (from-start tooHigh part _) ∙ front-none part 0 _ (sym (c .before .bits-on .ensures) ∙ none))
+    sym (sym (from-start part _) ∙ front-none part 0 _ (sym (c .before .bits-on .ensures) ∙ none))
 
 marks-on-requires : tie.Need-marks-on-requires
 marks-on-requires c κs = search needs
@@ -30,7 +29,7 @@ is-marked-requires c κs = search needs
 returns-2 : tie.Need-returns-2
 unfolding highPowers
 returns-2 c =
-    c .is-marked .ensures ∙ c .before .marks-on .ensures ∙ from-start tooHigh (c .before .before .before .before .before .args .part .now) _
+    c .is-marked .ensures ∙ c .before .marks-on .ensures ∙ from-start (c .before .before .before .before .before .args .part .now) _
 
 pub high-together-spec : {M : Type 1} → statement M
 high-together-spec =
