@@ -79,8 +79,8 @@ module _ (part : List ℕ) (of : HourSeries) (days : ℕ) (columns : Columns (le
         let third : highFrom part (2 * (96 * days)) (24 * days) ≡ false
         = sym (part-high part (2 * (96 * days)) (length part - 2 * (96 * days)) (24 * days) (omega (arith, all)) (omega (arith, all))) ∙ ap highPowers (sym lent) ∙ none in
         let two : any (highPower part) (48 * days) ≡ false
-        = sym (powers-more tooHigh part (24 * days) (24 * days) (96 * days) (48 * days) (omega arith) (omega arith) (sym first) (sym second)) in
-        sym (powers-more tooHigh part (48 * days) (24 * days) (2 * (96 * days)) (length part / 4) (omega arith) (omega (arith, all)) (sym two) (sym third))
+        = sym (powers-more part (24 * days) (24 * days) (96 * days) (48 * days) (omega arith) (omega arith) (sym first) (sym second)) in
+        sym (powers-more part (48 * days) (24 * days) (2 * (96 * days)) (length part / 4) (omega arith) (omega (arith, all)) (sym two) (sym third))
 
   -- k4's sums of the columns are those of the part.
   pub columns-sums : (S : ℕ) {k : K4} → K4Before (powerIn part (series 0 4)) (powerIn part (series (96 * days) 4)) S (24 * days) k
