@@ -8,3 +8,4 @@ pub mod Lanes
 pub mod LowMonth
 pub mod Columns
 pub mod WithinCeiling
+pub mod Found

@@ -1,6 +1,6 @@
 -- k1 and k4 of a producer, from the control average and the sums over the stretch of its hours. Assumes nothing.
 use mathlib.Core.Path.{_≡_, refl, ap, ap₂, _∙_}
-use mathlib.Core.Bool.{Bool, true}
+use mathlib.Core.Bool.{true}
 use mathlib.Core.List.{List}
 use Prim.Native.Nat.{ℕ, _+_, _*_, _≤_, _<_, min}
 use native.Mathlib.Omega.{arith}
@@ -11,7 +11,6 @@ use Rattle.rules.specs.declared.Ratio.{Ratio}
 use Rattle.rules.specs.declared.Series.{Series}
 use Rattle.rules.specs.declared.HourSeries.{HourSeries}
 use Rattle.rules.specs.declared.Stated.{Stated}
-use Rattle.rules.specs.Range.{listed}
 use Rattle.rules.specs.Month.{hours}
 use Rattle.rules.specs.Sheet.{hoursWidth, hoursAt, producerAt, statedOf, power, hourSeries, producerUnder}
 use Rattle.rules.specs.Outcome.{within}
@@ -22,6 +21,7 @@ use Rattle.rules.specs.Coefficients.{ratio, millionthsOf, overuse, penalty, les
 use Rattle.laws.proofs.Range.{sum-same}
 use Rattle.laws.proofs.Fields.{read-part}
 use Rattle.laws.proofs.Sheet.{Spans, series-span, span-ends}
+use Rattle.calendar.specs.Days.{dayOn}
 use Rattle.sheet.specs.Whole.{stretchIn}
 use Rattle.sheet.proofs.Whole.{stretch-whole}
 use Rattle.hours.specs.declared.k4.K4.{K4}
@@ -79,13 +79,13 @@ module _ (l : Layout) (s : List ℕ) (p : ℕ) (fits : hoursAt l p + hoursWidth 
         rw (is, sums, hour, total, standing (hourSeries l .working) working-spans, standing (hourSeries l .possible) possible-spans, sum-same _ _ {n = hours (l .header)} refl met-read, sum-same _ _ {n = hours (l .header)} refl asked-read)
 
   -- k1.
-  module _ (few : l .header .days ≤ 31) (from : 1 ≤ l .header .weekday) (to : l .header .weekday ≤ 7) {on : List Bool} (days : on ≡ listed (tableDay (l .header)) 256) where
+  module _ (few : l .header .days ≤ 31) (from : 1 ≤ l .header .weekday) (to : l .header .weekday ≤ 7) (on : ℕ) (days : (d : ℕ) → dayOn on d ≡ tableDay (l .header) d) where
     average : {of : HourSeries} {a : ℕ} → of ≡ hourSeries l → a ≡ averageIn hundredth part (Hourly.Power (of .outside)) (l .header .days) on
         → a ≡ controlAverage hundredth (l .header) (producerUnder l s p .outsideUse)
     average hour is =
         is
         ∙ ap (λ (x : HourSeries). averageIn hundredth part (Hourly.Power (x .outside)) (l .header .days) on) hour
-        ∙ average-known (l .header) few from to days part (Hourly.Power (hourSeries l .outside)) (producerUnder l s p .outsideUse)
+        ∙ average-known (l .header) few from to on days part (Hourly.Power (hourSeries l .outside)) (producerUnder l s p .outsideUse)
         (unfold hourlyStands in standing (hourSeries l .outside) outside-spans) (read (hourSeries l .outside) outside-spans) hundredth
 
     pub k1-known : {of : HourSeries} {a r : ℕ} {x : Stated} (T : ℕ) → of ≡ hourSeries l → a ≡ averageIn hundredth part (Hourly.Power (of .outside)) (l .header .days) on → x ≡ statedOf s (producerAt l p)

@@ -17,6 +17,10 @@ use Rattle.rules.specs.ControlTable.{inTable}
 use Rattle.rules.specs.Coefficients.{share, millionthsOf, coefficients}
 use Rattle.laws.proofs.Arrays.{Agrees, filled}
 use Rattle.units.specs.Sums.{tenths}
+use Rattle.rules.specs.Outcome.{within}
+use Rattle.sheet.specs.Whole.{stretchIn}
+use Rattle.refusals_powers.specs.Powers.{highPowers}
+use Rattle.producers.specs.declared.OwnTerms.{OwnTerms}
 use Rattle.producers.specs.declared.Terms.{Terms}
 
 -- The largest part of a ratio whose millionths fit 64 bits.
@@ -68,6 +72,14 @@ termsBelow m j n = filled zeroTerms (λ p. termsAt m p j) n
 abbrev pub Known : Month → ℕ → ℕ → List Terms → Type 0
 Known m j n terms = Agrees 6 noTerms (termsBelow m j n) terms
 
--- Before the first row.
+-- Producer p before the first row: whether its hours have a power above the ceiling, and its terms where they have none.
+abbrev pub ownTerms : Layout → List ℕ → ℕ → OwnTerms
+ownTerms layout s p =
+    record {
+      high = highPowers (within (stretchIn layout (length s) p) s);
+      terms = cond (highPowers (within (stretchIn layout (length s) p) s)) zeroTerms (termsAt (monthUnder layout s) p 0);
+    }
+
+-- All of them.
 abbrev pub termsOf : Layout → List ℕ → ℕ → Terms
-termsOf layout s = termsBelow (monthUnder layout s) 0 (withTerms layout s)
+termsOf layout s = filled zeroTerms (λ p. ownTerms layout s p .terms) (withTerms layout s)

@@ -2,14 +2,16 @@
 mod k1;
 
 ghost use mathlib.Core.Path.{_≡_};
-ghost use Prim.Native.Nat.{_+_, _-_, _<_, _≤_};
+ghost use Prim.Native.Nat.{ℕ, _+_, _-_, _<_, _≤_};
 ghost use lib.ListN.{length};
 ghost use Rattle.rules.specs.Sheet.{sheetLength, hoursAt, hoursWidth, monthUnder};
 ghost use Rattle.rules.specs.ControlTable.{tableDay};
 ghost use Rattle.rules.specs.Coefficients.{ratio, millionthsOf};
 ghost use Rattle.rules.specs.Range.{listed};
 ghost use Rattle.volumes.specs.Volumes.{Fits, volumesOf};
-ghost use Rattle.producers.specs.Terms.{mostPart, ksFrom, termsAt, termsOf, withTerms};
+ghost use Rattle.calendar.specs.Days.{dayOn};
+ghost use Rattle.refusals_sheet.specs.Numbers.{highHours};
+ghost use Rattle.producers.specs.Terms.{mostPart, ksFrom, zeroTerms, ownTerms, termsOf, withTerms};
 use crate::k1::k1_of;
 use calendar::ControlDays;
 use calendar::control_days;
@@ -171,7 +173,10 @@ pub fn all_terms(s: &[u8], layout: Layout) -> AllTerms
     ensures { λ r. ⌜ r .of ≡ listed (termsOf layout (now (s .entry))) 6 ⌝ }
     ensures high { λ r. ⌜ r .high ≡ highHours layout (now (s .entry)) (withTerms layout (now (s .entry))) ⌝ }
 {
-    let none = no_terms();
+    let none = Terms {
+        excess: Tenths(0),
+        ks: [0; 10],
+    };
     let mut all = AllTerms {
         of: [none; 6],
         high: false,

@@ -1,31 +1,34 @@
 use borrow.Author.Needs.{needs}
 use native.Mathlib.Omega.{arith}
-use mathlib.Core.Path.{_≡_}
-use Prim.Native.Nat.{_-_, _≤_, _<_, zero-le}
+use mathlib.Core.Path.{_≡_, sym, ap, _∙_}
+use Prim.Native.Nat.{ℕ, _-_, _≤_, _<_, zero-le}
 use native.Mathlib.Nat.{le-trans}
 use lib.ListN.{length}
 use Rattle.rules.specs.Sheet.{sheetLength, monthUnder}
 use Rattle.laws.proofs.Sheet.{hours-inside}
 use Rattle.rules.specs.ControlTable.{tableDay}
-use Rattle.rules.specs.Range.{listed}
-use Rattle.laws.proofs.Arrays.{agrees-as, agrees-listed, listed-agrees, filled-none, filled-more}
+use Rattle.laws.proofs.Arrays.{Agrees, filled, agrees-as, agrees-listed, listed-agrees, filled-none, filled-more}
+use Rattle.calendar.specs.Days.{dayOn}
+use Rattle.refusals_sheet.specs.Numbers.{highHours}
 use Rattle.volumes.specs.Volumes.{noVolumes}
 use Rattle.volumes.proofs.Turns.{volumes-whole}
-use Rattle.producers.specs.Terms.{noTerms, zeroTerms, withTerms, Known}
-use Rattle.producers.proofs.Cuts.{VolumesKnown}
+use Rattle.producers.specs.Terms.{noTerms, zeroTerms, ownTerms, withTerms}
+use Rattle.producers.specs.declared.OwnTerms.{OwnTerms}
+use Rattle.producers.proofs.Cuts.{VolumesKnown, none-tried, tried-more}
 use Rattle.producers.proofs.all_terms.Statement.{statement}
 use Rattle.producers.proofs.all_terms.Tie as tie
 
 abbrev Inv-loop : tie.InvT-loop
 Inv-loop s layout all₀ control volumes n p₀ all p =
-    Known (monthUnder layout s) 0 p (all .of)
+    Agrees 6 noTerms (filled zeroTerms (λ i. ownTerms layout s i .terms) p) (all .of)
     × (p ≤ n)
     × (0 < n → VolumesKnown (monthUnder layout s) (volumes .of))
     × (n ≡ withTerms layout s)
     × (n ≤ 6)
     × (0 < n → (layout .header .days ≤ 31) × (n ≤ layout .header .producers) × (sheetLength layout ≤ length s)
     × (1 ≤ layout .header .weekday) × (layout .header .weekday ≤ 7))
-    × (control .on ≡ listed (tableDay (layout .header)) 256)
+    × ((d : ℕ) → dayOn (control .on) d ≡ tableDay (layout .header) d)
+    × (all .high ≡ highHours layout s p)
 
 abbrev μ-loop : tie.MeasureT-loop
 μ-loop s layout all₀ control volumes n p₀ all p = n - p
@@ -50,6 +53,7 @@ loop-holds c =
       n .1,
       n .2,
       c .before .before .control-days .ensures,
+      none-tried _ _,
     )
 
 cast-i : tie.Need-cast-i Inv-loop μ-loop
@@ -72,11 +76,11 @@ terms-of-requires c κs =
       ((volumes .0 .each _ p, volumes .1 _ p), (some .3, some .4, inv .6)),
     )
 
-mul-t : tie.Need-mul-t Inv-loop μ-loop
-mul-t c = search needs
+mul-terms : tie.Need-mul-terms Inv-loop μ-loop
+mul-terms c = search needs
 
-element-set-from-t : tie.Need-element-set-from-t Inv-loop μ-loop
-element-set-from-t c = omega arith
+element-set-from-terms : tie.Need-element-set-from-terms Inv-loop μ-loop
+element-set-from-terms c = omega arith
 
 add-p : tie.Need-add-p Inv-loop μ-loop
 add-p c = omega arith
@@ -86,15 +90,16 @@ loop-less c = omega arith
 
 loop-again : tie.Need-loop-again Inv-loop μ-loop
 loop-again c =
-    let inv = c .before .before .before .loop .inv in
-    (filled-more 6 noTerms zeroTerms _ _ (omega arith) (c .terms-of .ensures) (inv .0), omega arith, inv .2, inv .3, inv .4, inv .5, inv .6)
+    let inv = c .before .before .before .before .loop .inv in
+    let own = c .before .terms-of .ensures in
+    (filled-more 6 noTerms zeroTerms _ _ (omega arith) (ap (λ (x : OwnTerms). x .terms) own) (inv .0), omega arith, inv .2, inv .3, inv .4, inv .5, inv .6, tried-more _ _ _ (inv .7) (ap (λ (x : OwnTerms). x .high) own))
 
 returns : tie.Need-returns Inv-loop μ-loop
 returns c =
     let inv = c .before .loop .inv in
     let a = c .before .before .before .before .before .before .args in
     let end : c .before .loop .p ≡ withTerms (a .layout) (a .s .now) = omega arith in
-    agrees-listed (rw end at (inv .0))
+    (agrees-listed (rw end at (inv .0)), rw end at (inv .7))
 
 pub all-terms-spec : {M : Type 1} → statement M
 all-terms-spec =
@@ -110,8 +115,8 @@ all-terms-spec =
     mul-v
     element-copy-out-v
     terms-of-requires
-    mul-t
-    element-set-from-t
+    mul-terms
+    element-set-from-terms
     add-p
     loop-less
     loop-again
