@@ -90,8 +90,8 @@ loop-less c = omega arith
 
 loop-again : tie.Need-loop-again Inv-loop μ-loop
 loop-again c =
-    let inv = c .before .before .before .before .loop .inv in
-    let own = c .before .terms-of .ensures in
+    let inv = c .before .before .before .before .before .loop .inv in
+    let own = c .before .before .terms-of .ensures in
     (filled-more 6 noTerms zeroTerms _ _ (omega arith) (ap (λ (x : OwnTerms). x .terms) own) (inv .0), omega arith, inv .2, inv .3, inv .4, inv .5, inv .6, tried-more _ _ _ (inv .7) (ap (λ (x : OwnTerms). x .high) own))
 
 returns : tie.Need-returns Inv-loop μ-loop
