@@ -1,5 +1,6 @@
 -- What is left in the buffer, with a number and without one. Assumes nothing.
-use mathlib.Core.Path.{_≡_, sym, _∙_}
+use mathlib.Core.Path.{_≡_, refl, sym, _∙_}
+use mathlib.Core.Bool.{Bool, true, false, cond}
 use mathlib.Core.List.{List}
 use Prim.Native.Nat.{ℕ}
 use borrow.Author.Tests.{eq-eqb, ne-eqb}
@@ -21,3 +22,8 @@ pub written : (layout : Layout) (s out x : List ℕ) → monthNumber layout s (l
     → (0 ≡ monthNumber layout s (length out)) × (x ≡ monthAfter layout s out)
 unfolding monthAfter
 written layout s out x e ex = (sym e, ex ∙ rw (eq-eqb (monthNumber layout s (length out)) 0 e))
+
+-- The same on either of two ways.
+pub either-way : (b : Bool) {x y : List ℕ} → x ≡ y → x ≡ cond b x y
+either-way true e = refl
+either-way false e = e
