@@ -1,33 +1,27 @@
+use mathlib.Core.Path.{sym, _∙_}
+use Rattle.result.proofs.After.{kept, number-kept, hours-answer}
 use borrow.Author.Needs.{needs}
 use Rattle.result.proofs.settle_month.Statement.{statement}
 use Rattle.result.proofs.settle_month.Tie as tie
-use Rattle.result.proofs.settle_month.Reads as reads
-use Rattle.result.proofs.settle_month.Lts as lts
-use Rattle.refusals_sheet.proofs.record_number.Reads as record-number-reads
-use Rattle.refusals_sheet.proofs.with_hours.Reads as with-hours-reads
-use Rattle.result.proofs.result.write_result.Reads as write-result-reads
 
--- src/lib.rt:20:9
 record-number-requires : tie.Need-record-number-requires
 record-number-requires c κs = search needs
 
--- src/lib.rt:22:9
 with-hours-requires : tie.Need-with-hours-requires
 with-hours-requires c κs = search needs
 
--- src/lib.rt:22:9
+-- The records have a number, so the month has one.
 returns : tie.Need-returns
-returns c = ?
+returns c =
+    let answer = c .with-hours .ensures ∙ hours-answer _ _ _ (c .before .before .record-number .ensures) in
+    kept _ _ _ answer (λ z. number-kept _ _ (c .before .if1 .taken) (sym (c .with-hours .ensures) ∙ z))
 
--- src/lib.rt:24:5
 write-result-requires : tie.Need-write-result-requires
 write-result-requires c κs = search needs
 
--- src/lib.rt:16:1
 same-length : tie.Need-same-length
 same-length c = search needs
 
--- src/lib.rt:16:1
 returns-2 : tie.Need-returns-2
 returns-2 c = search needs
 
