@@ -1,6 +1,6 @@
 -- What the figures of hours are, with a power above the ceiling and without one. Assumes nothing.
-use mathlib.Core.Path.{_≡_, refl, sym, _∙_}
-use mathlib.Core.Bool.{Bool, true, false}
+use mathlib.Core.Path.{_≡_, refl}
+use mathlib.Core.Bool.{false}
 use mathlib.Core.List.{List}
 use Prim.Native.Nat.{ℕ}
 use Rattle.rules.specs.declared.HourSeries.{HourSeries}
@@ -10,20 +10,16 @@ use Rattle.refusals_powers.specs.Powers.{highPowers}
 use Rattle.hours.specs.declared.series.Hourly.{Hourly}
 use Rattle.hours.specs.Sums.{k4In}
 use Rattle.hours.specs.Control.{averageIn}
-use Rattle.hours.specs.Figures.{hourFigures}
+use Rattle.hours.specs.Figures.{sumsBelow, hourFigures}
 
 module _ (part : List ℕ) (of : HourSeries) (days S on : ℕ) where
   pub high-found : hourFigures part of days S on .high ≡ highPowers part
   unfolding hourFigures
-  high-found = go (highPowers part) refl
-    where
-      go : (b : Bool) → highPowers part ≡ b → hourFigures part of days S on .high ≡ highPowers part
-      go true e = rw e
-      go false e = rw e
+  high-found = refl
 
   module _ (none : highPowers part ≡ false) where
     pub sums-found : hourFigures part of days S on .sums ≡ k4In part (of .working) (of .possible) days S
-    unfolding hourFigures
+    unfolding hourFigures sumsBelow
     sums-found = rw none
 
     pub average-found : hourFigures part of days S on .average ≡ hundredths (averageIn hundredth part (Hourly.Power (of .outside)) days on)

@@ -9,6 +9,7 @@ use Rattle.rules.specs.Units.{hundredth}
 use Rattle.units.specs.Sums.{tenths, hundredths}
 use Rattle.refusals_powers.specs.Powers.{highPowers}
 use Rattle.hours.specs.declared.figures.HourFigures.{HourFigures}
+use Rattle.hours.specs.declared.k4.K4.{K4}
 use Rattle.hours.specs.declared.series.Hourly.{Hourly}
 use Rattle.hours.specs.Sums.{k4In}
 use Rattle.hours.specs.Control.{averageIn}
@@ -24,13 +25,18 @@ inColumns bytes of days =
     && (isColumn (of .possible) (96 * days)
     && (isColumn (of .outside) (2 * (96 * days)) && (eqb bytes (3 * (96 * days)) && (leb 1 days && leb days 31))))
 
--- Of hours without a power above the ceiling k4's sums, and the control average of outside use in hundredths; of others nothing but that.
+-- k4's sums of hours without a power above the ceiling; of others none.
+unfoldable pub sumsBelow : List ℕ → HourSeries → ℕ → ℕ → K4
+sumsBelow part of days S =
+    cond (highPowers part)
+    (record { asked = tenths 0; met = tenths 0 })
+    (k4In part (of .working) (of .possible) days S)
+
+-- With them the control average of outside use in hundredths. Of hours with a power above the ceiling there is nothing but that.
 unfoldable pub hourFigures : List ℕ → HourSeries → ℕ → ℕ → ℕ → HourFigures
 hourFigures part of days S on =
-    cond (highPowers part)
-    (record { high = true; sums = record { asked = tenths 0; met = tenths 0 }; average = hundredths 0 })
-    (record {
-      high = false;
-      sums = k4In part (of .working) (of .possible) days S;
-      average = hundredths (averageIn hundredth part (Hourly.Power (of .outside)) days on);
-    })
+    record {
+      high = highPowers part;
+      sums = sumsBelow part of days S;
+      average = hundredths (cond (highPowers part) 0 (averageIn hundredth part (Hourly.Power (of .outside)) days on));
+    }

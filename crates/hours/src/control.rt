@@ -64,6 +64,43 @@ fn by_day(part: &[u8], x: Hourly, days: u8, control: ControlDays) -> Control
     Control { counted, count }
 }
 
+// The powers of a day's hours 17 to 22 in all. It says for one series what evening_sum says for any figure, so that the settlement and the averaging
+// have a loop each, which stands where it is called (docs/DECISIONS.md, Requests, 7).
+fn evening_powers(part: &[u8], x: Series, day: usize) -> Tenths
+    requires { ⌜ Stands (now part) x (24 * day + 23) × (day < 256) ⌝ }
+    ensures { λ r. ⌜ (r .0 ≡ evening (powerIn (now (part .entry)) x) day) × (r .0 ≤ 6 * mostWord) ⌝ }
+{
+    let mut total = Tenths(0);
+    let mut i: usize = 0;
+    while i < 6 {
+        total = total.plus(Tenths::stated(power(part, x, 24 * day + (17 + i))));
+        i += 1;
+    }
+    total
+}
+
+// Day by day: six powers of each control day.
+fn by_power(part: &[u8], x: Series, days: u8, control: ControlDays) -> Control
+    requires { ⌜ Stands (now part) x (24 * days) × (days ≤ 31) ⌝ }
+    ensures { λ r. ⌜ (r ≡ controlOf (powerIn (now (part .entry)) x) (control .on) days) × (r .counted .0 ≤ mostWord * r .count)
+        × (r .count ≤ 186) ⌝ }
+{
+    let mut powers = Tenths(0);
+    let mut count: u64 = 0;
+    let mut day: usize = 0;
+    while day < days as usize {
+        if is_on(control, day as u8) {
+            powers = powers.plus(evening_powers(part, x, day));
+            count = count + 6;
+        }
+        day += 1;
+    }
+    Control {
+        counted: powers,
+        count,
+    }
+}
+
 // Two powers of a column, the first in the upper 32 bits: one load.
 fn two_powers(part: &[u8], of: Series, i: usize) -> u64
     requires { ⌜ Stands (now part) of (i + 2) × (i < 65000) ⌝ }
@@ -83,7 +120,7 @@ fn evening_twos(part: &[u8], of: Series, day: usize) -> u64
     two_powers(part, of, at) + two_powers(part, of, at + 2) + two_powers(part, of, at + 4)
 }
 
-// The same as by_day of a column whose powers are within the ceiling. The step is written out, so that the compiler knows it.
+// The same as by_power of a column whose powers are within the ceiling. The step is written out, so that the compiler knows it.
 fn by_column(part: &[u8], start: u16, days: u8, control: ControlDays) -> Control
     requires { ⌜ Stands (now part) (series start 4) (24 * days) × (days ≤ 31) ⌝ }
     requires { ⌜ ((i : ℕ) → i < 24 * days → powerIn (now part) (series start 4) i ≤ 100000) ⌝ }
@@ -148,12 +185,16 @@ fn outside_hours(part: &[u8], x: Series, days: u8, control: ControlDays) -> Cont
     ensures { λ r. ⌜ r ≡ controlIn (now (part .entry)) (Hourly.Power x) days (control .on) ⌝ }
     ensures fits { λ r. ⌜ (r .counted .0 ≤ mostWord * r .count) × (r .count ≤ 186) ⌝ }
 {
-    if (x.step == 4) & (x.start % 4 == 0) {
-        if (days <= 31) & stands(part, x, 24 * (days as u16)) {
+    if (days <= 31) & stands(part, x, 24 * (days as u16)) {
+        if (x.step == 4) & (x.start % 4 == 0) {
             return by_column(part, x.start, days, control);
         }
+        return by_power(part, x, days, control);
     }
-    control_hours(part, Hourly::Power(x), days, control)
+    Control {
+        counted: Tenths(0),
+        count: 0,
+    }
 }
 
 // Its control average to a hundredth.

@@ -7,7 +7,7 @@ ghost use lib.ListN.{length};
 ghost use Rattle.laws.specs.Bounds.{mostWord};
 ghost use Rattle.refusals_powers.specs.Powers.{highPowers};
 ghost use Rattle.hours.specs.Sums.{k4In};
-ghost use Rattle.hours.specs.Figures.{isColumn, inColumns, hourFigures};
+ghost use Rattle.hours.specs.Figures.{isColumn, inColumns, sumsBelow, hourFigures};
 use crate::control::outside_average;
 use crate::k4::K4;
 use crate::k4::k4_sums;
@@ -75,35 +75,34 @@ fn low_columns(part: &[u8], of: HourSeries, days: u8, summed: Tenths) -> LowSums
     low_sums(part, days as usize, summed.0 as u16)
 }
 
-// The figures where not all is low, or the part has no columns.
-fn other_figures(
-    part: &[u8],
-    of: HourSeries,
-    days: u8,
-    summed: Tenths,
-    control: ControlDays,
-) -> HourFigures
-    ensures { λ r. ⌜ r ≡ hourFigures (now (part .entry)) of days (summed .0) (control .on) ⌝ }
-    ensures fits { λ r. ⌜ (r .sums .asked .0 ≤ mostWord * (24 * days)) × (r .sums .met .0 ≤ mostWord * (24 * days)) × (r .average .0 ≤ 10 * mostWord) ⌝ }
+// Some power is above the ceiling; k4's sums where none is.
+struct MonthSums {
+    high: bool,
+    sums: K4,
+}
+
+// Of a month of so many days, for a summed capacity S.
+fn month_sums(part: &[u8], of: HourSeries, days: u8, summed: Tenths) -> MonthSums
+    ensures { λ r. ⌜ (r .high ≡ highPowers (now (part .entry))) × (r .sums ≡ sumsBelow (now (part .entry)) of days (summed .0)) ⌝ }
+    ensures fits { λ r. ⌜ (r .sums .asked .0 ≤ mostWord * (24 * days)) × (r .sums .met .0 ≤ mostWord * (24 * days)) ⌝ }
 {
+    let first = low_columns(part, of, days, summed);
+    if first.low {
+        let sums = first.sums;
+        return MonthSums { high: false, sums };
+    }
     if high_powers(part) {
         let none = K4 {
             asked: Tenths(0),
             met: Tenths(0),
         };
-        return HourFigures {
+        return MonthSums {
             high: true,
             sums: none,
-            average: Hundredths(0),
         };
     }
     let sums = k4_sums(part, of.working, of.possible, days, summed);
-    let average = outside_average(part, of.outside, days, control);
-    HourFigures {
-        high: false,
-        sums,
-        average,
-    }
+    MonthSums { high: false, sums }
 }
 
 // The figures of a month of so many days, for a summed capacity S; of hours with a power above the ceiling there are none but that.
@@ -117,11 +116,15 @@ pub fn hour_figures(
     ensures { λ r. ⌜ r ≡ hourFigures (now (part .entry)) of days (summed .0) (control .on) ⌝ }
     ensures fits { λ r. ⌜ (r .sums .asked .0 ≤ mostWord * (24 * days)) × (r .sums .met .0 ≤ mostWord * (24 * days)) × (r .average .0 ≤ 10 * mostWord) ⌝ }
 {
-    let first = low_columns(part, of, days, summed);
-    if !first.low {
-        return other_figures(part, of, days, summed, control);
+    let month = month_sums(part, of, days, summed);
+    let sums = month.sums;
+    if month.high {
+        return HourFigures {
+            high: month.high,
+            sums,
+            average: Hundredths(0),
+        };
     }
-    let sums = first.sums;
     let average = outside_average(part, of.outside, days, control);
     HourFigures {
         high: false,

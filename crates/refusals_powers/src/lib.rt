@@ -1,7 +1,8 @@
 // Numbers 9 and 17 of powers that stand one after the other, as a producer's hours or those of a complex's record do. A power is taken as
 // it stands in the machine's word, so that one instruction serves four of them. Blocks of 72 powers, as many as a producer's day has, are
 // tried some at a time, and passed while each of their powers has two zero bytes at the front. From the first that are not passed on every
-// power leaves its marks, and the marks of all are tested once. Those after the last block are passed in the same way, or tried one by one.
+// power leaves its marks, and the marks of all are tested once. Where all blocks are passed, those after the last are passed in the same way, or
+// tried one by one.
 ghost use mathlib.Core.Path.{_≡_};
 ghost use mathlib.Core.Bool.{false, _||_};
 ghost use Prim.Native.Nat.{_+_, _-_, _*_, _/_, _^_, _<_, _≤_};
@@ -196,20 +197,6 @@ fn low_blocks(part: &[u8]) -> usize
     b
 }
 
-// 9, of all whole blocks, where those before a first have no power above the ceiling.
-fn high_blocks(part: &[u8], first: usize) -> bool
-    requires { ⌜ (first ≤ length (now part) / 288) × (any (highPower (now part)) (72 * first) ≡ false) ⌝ }
-    ensures { λ r. ⌜ r ≡ any (highPower (now (part .entry))) (72 * (length (now (part .entry)) / 288)) ⌝ }
-{
-    let mut m = Marks { front: 0, above: 0 };
-    let mut b = first;
-    while b < part.len() / 288 {
-        m = joined(m, marks_on(part, 288 * b, 72));
-        b += 1;
-    }
-    is_marked(m)
-}
-
 // 9, of so many powers from a place on, one by one. What is past the end counts as 0.
 fn one_by_one(s: &[u8], at: usize, count: usize) -> bool
     requires { ⌜ at + 4 * count < 2 ^ 64 ⌝ }
@@ -242,9 +229,13 @@ fn rest_high(part: &[u8], at: usize, count: usize) -> bool
 pub fn high_powers(part: &[u8]) -> bool
     ensures { λ r. ⌜ r ≡ highPowers (now (part .entry)) ⌝ }
 {
-    let blocks = part.len() / 288;
-    high_blocks(part, low_blocks(part))
-        | rest_high(part, 288 * blocks, part.len() / 4 - 72 * blocks)
+    let low = low_blocks(part);
+    let at = 288 * low;
+    let count = part.len() / 4 - 72 * low;
+    if low < part.len() / 288 {
+        return is_marked(marks_on(part, at, count));
+    }
+    rest_high(part, at, count)
 }
 
 // The same of a part that is tried by itself, as a record is: all of its powers are one block. It is a function of its own, so that each of

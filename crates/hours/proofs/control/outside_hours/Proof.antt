@@ -1,7 +1,7 @@
 use mathlib.Core.Path.{_≡_, sym, ap, _∙_}
 use mathlib.Core.Bool.{Bool, true, false, _&&_}
 use mathlib.Core.List.{List}
-use Prim.Native.Nat.{ℕ, _*_, _%_, _≤_, _<_}
+use Prim.Native.Nat.{ℕ, _*_, _%_, _≤_, _<_, zero-le}
 use lib.Dec.{eqb, leb}
 use lib.ListN.{length}
 use borrow.Author.Tests.{eqb-true, leb-true}
@@ -19,23 +19,32 @@ use borrow.Author.Needs.{needs}
 use Rattle.hours.proofs.control.outside_hours.Statement.{statement}
 use Rattle.hours.proofs.control.outside_hours.Tie as tie
 
--- A column that begins with a power of the part and stands in it.
-module _ (part : List ℕ) (x : Series) (days : ℕ) (column : (eqb (x .step) 4 && eqb (x .start % 4) 0) ≡ true)
-    (standing : (leb days 31 && stands (length part) x (24 * days)) ≡ true) where
+-- The series stands in the part.
+module _ (part : List ℕ) (x : Series) (days : ℕ) (standing : (leb days 31 && stands (length part) x (24 * days)) ≡ true) where
+  stand : Stands part x (24 * days) × (days ≤ 31)
+  stand = let two = both (leb days 31) _ standing in (told part x (24 * days) (two .1), leb-true _ _ (two .0))
+
+  answered : (on : ℕ) {r : Control} → r ≡ controlOf (powerIn part x) on days → r ≡ controlIn part (Hourly.Power x) days on
+  unfolding controlIn hourlyStands
+  answered on e = rw standing e
+
+-- It is a column that begins with a power of the part.
+module _ (part : List ℕ) (x : Series) (days : ℕ) (column : (eqb (x .step) 4 && eqb (x .start % 4) 0) ≡ true) where
   is-column : x ≡ series (x .start) 4
   is-column = apart x (eqb-true _ _ (both (eqb (x .step) 4) _ column .0))
 
-  stand : Stands part (series (x .start) 4) (24 * days)
-  stand = rw is-column at (told part x (24 * days) (both (leb days 31) _ standing .1))
-
-  asked : highPowers part ≡ false
+  asked : highPowers part ≡ false → Stands part x (24 * days) × (days ≤ 31)
       → (Stands part (series (x .start) 4) (24 * days) × (days ≤ 31)) × ((i : ℕ) → i < 24 * days → powerIn part (series (x .start) 4) i ≤ 100000)
-  asked none =
-      ((stand, leb-true _ _ (both (leb days 31) _ standing .0)), none-high part (x .start) (24 * days) none (eqb-true _ _ (both (eqb (x .step) 4) _ column .1)) stand)
+  asked none two =
+      let s = rw is-column at (two .0) in
+      ((s, two .1), none-high part (x .start) (24 * days) none (eqb-true _ _ (both (eqb (x .step) 4) _ column .1)) s)
 
-  answered : (on : ℕ) {r : Control} → r ≡ controlOf (powerIn part (series (x .start) 4)) on days → r ≡ controlIn part (Hourly.Power x) days on
-  unfolding controlIn hourlyStands
-  answered on e = rw (standing, is-column) e
+  as-column : (on : ℕ) {r : Control} → r ≡ controlOf (powerIn part (series (x .start) 4)) on days → r ≡ controlOf (powerIn part x) on days
+  as-column on e = rw is-column e
+
+-- The test of the part was passed.
+passed : (c : tie.Then1) → (let a = c .before .before .before .args in (leb (a .days) 31 && stands (length (a .part .now)) (a .x) (24 * a .days)) ≡ true)
+passed c = rw (sym (c .before .stands .ensures)) (c .if1 .taken)
 
 mul-stands : tie.Need-mul-stands
 mul-stands c = search needs
@@ -45,21 +54,26 @@ stands-requires c κs = search needs
 
 by-column-requires : tie.Need-by-column-requires
 by-column-requires c κs =
-    let a = c .before .before .before .before .before .before .args in
-    asked (a .part .now) (a .x) (a .days) (c .before .before .if1 .taken) (rw (sym (c .before .stands .ensures)) (c .if2 .taken)) (c .before .before .before .before .before .before .pre)
+    let a = c .before .before .before .before .before .before in
+    asked _ (a .args .x) _ (c .if2 .taken) (a .pre) (stand (a .args .part .now) _ _ (passed (c .before .before .before)))
 
 returns : tie.Need-returns
 returns c =
-    let a = c .before .before .before .before .before .before .before .args in (
-      answered (a .part .now) (a .x) (a .days) (c .before .before .before .if1 .taken) (rw (sym (c .before .before .stands .ensures)) (c .before .if2 .taken)) (a .control .on) (c .by-column .ensures .0),
-      (c .by-column .ensures .1, c .by-column .ensures .2),
-    )
+    let a = c .before .before .before .before .before .before .before .args in
+    let r = c .by-column .ensures in
+    (answered _ _ _ (passed (c .before .before .before .before)) _ (as-column _ (a .x) _ (c .before .if2 .taken) _ (r .0)), (r .1, r .2))
 
-control-hours-requires : tie.Need-control-hours-requires
-control-hours-requires c κs = search needs
+by-power-requires : tie.Need-by-power-requires
+by-power-requires c κs = stand (c .before .before .before .before .before .before .args .part .now) _ _ (passed (c .before .before .before))
 
 returns-2 : tie.Need-returns-2
-returns-2 c = search needs
+returns-2 c =
+    let r = c .by-power .ensures in
+    (answered _ _ _ (passed (c .before .before .before .before)) _ (r .0), (r .1, r .2))
+
+returns-3 : tie.Need-returns-3
+unfolding controlIn hourlyStands
+returns-3 c = (rw (sym (c .before .stands .ensures), c .if1 .left), (zero-le, zero-le))
 
 pub outside-hours-spec : {M : Type 1} → statement M
 outside-hours-spec =
@@ -69,5 +83,6 @@ outside-hours-spec =
     stands-requires
     by-column-requires
     returns
-    control-hours-requires
-    returns-2)
+    by-power-requires
+    returns-2
+    returns-3)

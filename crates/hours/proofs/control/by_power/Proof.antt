@@ -1,0 +1,78 @@
+use native.Mathlib.Omega.{arith}
+use mathlib.Core.Path.{_≡_, sym, ap, _∙_}
+use mathlib.Core.Logic.{⊎-elim}
+use Prim.Native.Nat.{_-_, _≤_, zero-le}
+use Rattle.units.specs.Sums.{tenths}
+use Rattle.units.proofs.Adding.{added-exact}
+use Rattle.hours.specs.Series.{powerIn}
+use Rattle.hours.proofs.Standing.{fewer}
+use Rattle.hours.proofs.Turns.{SoFar, none-yet, control-more, other-more, all-days}
+use borrow.Author.Needs.{needs}
+use Rattle.hours.proofs.control.by_power.Statement.{statement}
+use Rattle.hours.proofs.control.by_power.Tie as tie
+
+abbrev Inv-loop : tie.InvT-loop
+Inv-loop part x days control powers₀ count₀ day₀ powers count day = SoFar (powerIn part x) (control .on) day (powers .0) count × (day ≤ days)
+
+abbrev μ-loop : tie.MeasureT-loop
+μ-loop part x days control powers₀ count₀ day₀ powers count day = days - day
+
+loop-holds : tie.Need-loop-holds Inv-loop μ-loop
+loop-holds c = (none-yet _ _, zero-le)
+
+cast-is-on : tie.Need-cast-is-on Inv-loop μ-loop
+cast-is-on c = record { fits = omega arith }
+
+is-on-requires : tie.Need-is-on-requires Inv-loop μ-loop
+is-on-requires c κs = search needs
+
+evening-powers-requires : tie.Need-evening-powers-requires Inv-loop μ-loop
+evening-powers-requires c κs = (fewer (c .before .before .before .before .before .args .part .now) (c .before .before .before .before .before .args .x) (omega arith) (c .before .before .before .before .before .pre .0), omega arith)
+
+plus-requires : tie.Need-plus-requires Inv-loop μ-loop
+plus-requires c κs = search needs
+
+add-count : tie.Need-add-count Inv-loop μ-loop
+add-count c = search needs
+
+add-day : tie.Need-add-day Inv-loop μ-loop
+add-day c = search needs
+
+loop-less : tie.Need-loop-less Inv-loop μ-loop
+loop-less c = search needs
+
+loop-again : tie.Need-loop-again Inv-loop μ-loop
+loop-again c =
+    let l = c .before .before .before .loop in
+    let on = sym (c .before .is-on .ensures) in (
+      ⊎-elim
+          (λ w. rw (w .3, w .4, ap tenths (w .2 .ensures ∙ added-exact _ _ (omega (arith, l .inv .0 .fits, l .inv .0 .few, w .1 .ensures .1))))
+          (control-more _ _ (l .inv .0) (on ∙ w .0 .taken) (w .1 .ensures .0) (w .1 .ensures .1)))
+          (λ w. rw (w .1, w .2) (other-more _ _ (l .inv .0) (on ∙ w .0 .left)))
+          (c .if1 .came),
+      omega arith,
+    )
+
+returns : tie.Need-returns Inv-loop μ-loop
+returns c =
+    let l = c .before .loop in
+    let a = c .before .before .before in
+    let end : l .day ≡ a .args .days = omega arith in
+    (all-days _ _ (rw end at (l .inv .0)), l .inv .0 .fits, omega (arith, l .inv .0 .few))
+
+pub by-power-spec : {M : Type 1} → statement M
+by-power-spec =
+    tie.close
+    (tie.spec
+    Inv-loop
+    μ-loop
+    loop-holds
+    cast-is-on
+    is-on-requires
+    evening-powers-requires
+    plus-requires
+    add-count
+    add-day
+    loop-less
+    loop-again
+    returns)
