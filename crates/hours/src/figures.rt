@@ -68,11 +68,15 @@ fn low_columns(part: &[u8], of: HourSeries, days: u8, summed: Tenths) -> LowSums
     if (32767 < word(part, 0)) | (32767 < word(part, column)) {
         return none;
     }
+    let tried = low_sums(part, days as usize, summed.0 as u16);
+    if !tried.low {
+        return none;
+    }
     let outside = 2 * column;
     if high_powers(&part[outside..]) {
         return none;
     }
-    low_sums(part, days as usize, summed.0 as u16)
+    tried
 }
 
 // Some power is above the ceiling; k4's sums where none is.

@@ -44,14 +44,25 @@ word-requires-2 c κs = search needs
 returns-2 : tie.Need-returns-2
 returns-2 c e = absurd (true≢false (sym e))
 
+cast-low-sums : tie.Need-cast-low-sums
+cast-low-sums c = record { fits = omega (arith, columns (c .before .before .before .before) .1) }
+
+low-sums-requires : tie.Need-low-sums-requires
+low-sums-requires c κs =
+    let k = columns (c .before .before .before .before) in
+    ((omega (arith, k .0 .all-bytes), k .0 .some-days, k .0 .few-days, k .1), firsts (c .before))
+
+returns-3 : tie.Need-returns-3
+returns-3 c e = absurd (true≢false (sym e))
+
 mul-outside : tie.Need-mul-outside
 mul-outside c = search needs
 
 sub-high-powers : tie.Need-sub-high-powers
-sub-high-powers c = omega (arith, columns (c .before .before .before) .0 .all-bytes)
+sub-high-powers c = omega (arith, columns (c .before .before .before .before .before .before .before) .0 .all-bytes)
 
 part-high-powers-start : tie.Need-part-high-powers-start
-part-high-powers-start c = omega (arith, columns (c .before .before .before) .0 .all-bytes)
+part-high-powers-start c = sub-high-powers c
 
 part-high-powers-end : tie.Need-part-high-powers-end
 part-high-powers-end c = search needs
@@ -59,25 +70,16 @@ part-high-powers-end c = search needs
 high-powers-requires : tie.Need-high-powers-requires
 high-powers-requires c κs = search needs
 
-returns-3 : tie.Need-returns-3
-returns-3 c e = absurd (true≢false (sym e))
-
-cast-low-sums : tie.Need-cast-low-sums
-cast-low-sums c = record { fits = omega (arith, columns (c .before .before .before .before .before .before .before) .1) }
-
-low-sums-requires : tie.Need-low-sums-requires
-low-sums-requires c κs =
-    let k = columns (c .before .before .before .before .before .before .before) in
-    let powers = firsts (c .before .before .before .before) in
-    ((omega (arith, k .0 .all-bytes), k .0 .some-days, k .0 .few-days, k .1), powers)
-
 returns-4 : tie.Need-returns-4
-returns-4 c e =
-    let s = c .before .before .before .before .before .before .before .before .before .before .before .before in
+returns-4 c e = absurd (true≢false (sym e))
+
+returns-5 : tie.Need-returns-5
+returns-5 c e =
+    let s = c .before .before .before .before .before .before .before .before .before .before .before .before .before .before in
     let part = s .args .part .now in
-    let k = columns (c .before .before .before .before .before .before .before .before) in
-    let low = c .low-sums .ensures e in
-    let none = none-high part (s .args .of) (s .args .days) (k .0) (low .0) (low .1) refl (sym (c .before .before .before .high-powers .ensures) ∙ c .before .before .if3 .left) in
+    let k = columns (c .before .before .before .before .before .before .before .before .before .before) in
+    let low = c .before .before .before .before .before .low-sums .ensures e in
+    let none = none-high part (s .args .of) (s .args .days) (k .0) (low .0) (low .1) refl (sym (c .before .high-powers .ensures) ∙ c .if4 .left) in
     let sums = columns-sums part (s .args .of) (s .args .days) (k .0) (s .args .summed .0) (low .2) in
     (none, sums .0, sums .1, sums .2)
 
@@ -91,12 +93,13 @@ low-columns-spec =
     word-requires
     word-requires-2
     returns-2
+    cast-low-sums
+    low-sums-requires
+    returns-3
     mul-outside
     sub-high-powers
     part-high-powers-start
     part-high-powers-end
     high-powers-requires
-    returns-3
-    cast-low-sums
-    low-sums-requires
-    returns-4)
+    returns-4
+    returns-5)
