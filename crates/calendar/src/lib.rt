@@ -2,7 +2,6 @@
 ghost use mathlib.Core.Path.{_≡_};
 ghost use Prim.Native.Nat.{ℕ, _/_, _^_};
 ghost use lib.Dec.{ltb};
-ghost use Rattle.rules.specs.ControlHours.{holidayOn};
 ghost use Rattle.rules.specs.ControlTable.{tableDay, inTable};
 ghost use Rattle.calendar.specs.Days.{dayOn};
 use rules::Header;
@@ -11,24 +10,6 @@ pub mod table;
 
 use table::YES;
 use table::line_of;
-
-// A day's bit is set; no day past the 32 bits has one.
-fn bit_on(days: u32, day: u8) -> bool
-    ensures { λ r. ⌜ r ≡ dayOn days day ⌝ }
-{
-    if day < 32 {
-        (days >> day) & 1 == 1
-    } else {
-        false
-    }
-}
-
-// The day's bit of the holidays.
-pub fn holiday_on(h: Header, day: u8) -> bool
-    ensures { λ r. ⌜ r ≡ holidayOn h day ⌝ }
-{
-    bit_on(h.holidays, day)
-}
 
 // Which days are control days: a bit for each, the lowest for day 0; none past the 31 that a month may have.
 pub struct ControlDays {
@@ -54,11 +35,15 @@ pub fn control_days(h: Header) -> ControlDays
     }
 }
 
-// The day's bit of the control days.
+// The day's bit of the control days; no day past the 32 bits has one.
 pub fn is_on(control: ControlDays, day: u8) -> bool
     ensures { λ r. ⌜ r ≡ dayOn (control .on) day ⌝ }
 {
-    bit_on(control.on, day)
+    if day < 32 {
+        (control.on >> day) & 1 == 1
+    } else {
+        false
+    }
 }
 
 // A month that the table has, so that its control days are those of the weekday rule.

@@ -126,7 +126,7 @@ fn record_refusal(s: &[u8], layout: Layout) -> u8
 }
 
 // Some power in the hours of some producer is above the ceiling.
-pub fn high_hours(s: &[u8], layout: Layout) -> bool
+fn high_hours(s: &[u8], layout: Layout) -> bool
     ensures { λ r. ⌜ r ≡ highHours layout (now (s .entry)) (layout .header .producers) ⌝ }
 {
     let mut high = false;

@@ -3,8 +3,8 @@ use lib.Bits.{and-mask}
 use Rattle.calendar.specs.Days.{dayOn}
 use Rattle.calendar.proofs.Shifts.{shifted-out}
 use borrow.Author.Needs.{needs}
-use Rattle.calendar.proofs.bit_on.Statement.{statement}
-use Rattle.calendar.proofs.bit_on.Tie as tie
+use Rattle.calendar.proofs.is_on.Statement.{statement}
+use Rattle.calendar.proofs.is_on.Tie as tie
 
 shr-result : tie.Need-shr-result
 shr-result c = search needs
@@ -15,7 +15,7 @@ returns c = rw (and-mask _ 1)
 
 returns-2 : tie.Need-returns-2
 unfolding dayOn
-returns-2 c = rw (shifted-out (c .before .args .days) _ (omega arith) (c .if1 .left))
+returns-2 c = rw (shifted-out (c .before .args .control .on) _ (omega arith) (c .if1 .left))
 
-pub bit-on-spec : {M : Type 1} → statement M
-bit-on-spec = tie.close (tie.spec shr-result returns returns-2)
+pub is-on-spec : {M : Type 1} → statement M
+is-on-spec = tie.close (tie.spec shr-result returns returns-2)
