@@ -8,4 +8,5 @@ pub mod Lanes
 pub mod LowMonth
 pub mod Columns
 pub mod WithinCeiling
+pub mod WithinMonth
 pub mod Found

@@ -1,18 +1,23 @@
-// What a settlement takes from a producer's hours: number 9, k4's sums and the control average of outside use. Low powers by column are tried and summed in
-// one pass.
+// What a settlement takes from a producer's hours: number 9, k4's sums and the control average of outside use. Working and possible powers by column are
+// tried and summed in one pass.
 ghost use mathlib.Core.Path.{_≡_};
 ghost use mathlib.Core.Bool.{true, false};
 ghost use Prim.Native.Nat.{_*_, _≤_};
 ghost use lib.ListN.{length};
 ghost use Rattle.laws.specs.Bounds.{mostWord};
 ghost use Rattle.refusals_powers.specs.Powers.{highPowers};
-ghost use Rattle.hours.specs.Sums.{k4In};
+ghost use Rattle.rules.specs.Sheet.{series};
+ghost use Rattle.units.specs.Sums.{tenths};
+ghost use Rattle.hours.specs.Series.{powerIn};
+ghost use Rattle.hours.specs.Sums.{K4Before};
+ghost use Rattle.hours.specs.Within.{PowersWithin};
 ghost use Rattle.hours.specs.Figures.{isColumn, inColumns, sumsBelow, hourFigures};
 use crate::control::outside_average;
 use crate::k4::K4;
 use crate::k4::k4_sums;
 use crate::low::LowSums;
 use crate::low::low_sums;
+use crate::within::within_sums;
 use calendar::ControlDays;
 use fields::word;
 use refusals_powers::high_powers;
@@ -49,34 +54,25 @@ fn is_column(x: Series, start: usize) -> bool
     (x.step == 4) & (x.start as usize == start)
 }
 
-// k4's sums of a month of columns, where all working and possible powers are low and no outside use is above the ceiling.
-fn low_columns(part: &[u8], of: HourSeries, days: u8, summed: Tenths) -> LowSums
-    ensures { λ r. ⌜ (r .low ≡ true → (highPowers (now (part .entry)) ≡ false) × (r .sums ≡ k4In (now (part .entry)) (of .working) (of .possible) days (summed .0))
-        × (r .sums .asked .0 ≤ mostWord * (24 * days)) × (r .sums .met .0 ≤ mostWord * (24 * days))) ⌝ }
+// k4's sums of a month of columns, right where no power of the part is above the ceiling. They are not called right where a working or a possible power
+// is. A month that begins with low powers is taken for a low one first.
+fn tried_sums(part: &[u8], days: u8, summed: Tenths) -> LowSums
+    requires { ⌜ (length (now part) ≡ 3 * (96 * days)) × (1 ≤ days) × (days ≤ 31) ⌝ }
+    ensures { λ r. ⌜ (r .low ≡ true → PowersWithin (now (part .entry)) (48 * days)
+        × K4Before (powerIn (now (part .entry)) (series 0 4)) (powerIn (now (part .entry)) (series (96 * days) 4)) (summed .0) (24 * days) (r .sums)) ⌝ }
+    ensures { λ r. ⌜ (highPowers (now (part .entry)) ≡ false → r .low ≡ true) ⌝ }
 {
-    let none = LowSums {
-        low: false,
-        sums: K4 {
-            asked: Tenths(0),
-            met: Tenths(0),
-        },
-    };
     let column = 96 * (days as usize);
-    if !(in_columns(part, of, days) & (summed.0 <= 32767)) {
-        return none;
+    let first = word(part, 0);
+    let second = word(part, column);
+    if (summed.0 <= 32767) & ((first <= 32767) & (second <= 32767)) {
+        let low = low_sums(part, days as usize, summed.0 as u16);
+        if low.low {
+            return low;
+        }
     }
-    if (32767 < word(part, 0)) | (32767 < word(part, column)) {
-        return none;
-    }
-    let tried = low_sums(part, days as usize, summed.0 as u16);
-    if !tried.low {
-        return none;
-    }
-    let outside = 2 * column;
-    if high_powers(&part[outside..]) {
-        return none;
-    }
-    tried
+    let least = summed.smaller(Tenths(Tenths::CEILING));
+    within_sums(part, 24 * (days as usize), least.0 as u32)
 }
 
 // Some power is above the ceiling; k4's sums where none is.
@@ -85,24 +81,48 @@ struct MonthSums {
     sums: K4,
 }
 
+// There are no sums.
+fn none_summed() -> K4
+    ensures { λ r. ⌜ r ≡ record { asked = tenths 0; met = tenths 0 } ⌝ }
+{
+    K4 {
+        asked: Tenths(0),
+        met: Tenths(0),
+    }
+}
+
+// Of a month of columns, for a summed capacity S.
+fn column_sums(part: &[u8], days: u8, summed: Tenths) -> MonthSums
+    requires { ⌜ (length (now part) ≡ 3 * (96 * days)) × (1 ≤ days) × (days ≤ 31) ⌝ }
+    ensures { λ r. ⌜ r .high ≡ highPowers (now (part .entry)) ⌝ }
+    ensures { λ r. ⌜ (r .high ≡ true → r .sums ≡ record { asked = tenths 0; met = tenths 0 })
+        × (r .high ≡ false
+          → K4Before (powerIn (now (part .entry)) (series 0 4)) (powerIn (now (part .entry)) (series (96 * days) 4)) (summed .0) (24 * days) (r .sums)) ⌝ }
+{
+    let tried = tried_sums(part, days, summed);
+    let outside = 192 * (days as usize);
+    if !tried.low | high_powers(&part[outside..]) {
+        return MonthSums {
+            high: true,
+            sums: none_summed(),
+        };
+    }
+    let sums = tried.sums;
+    MonthSums { high: false, sums }
+}
+
 // Of a month of so many days, for a summed capacity S.
 fn month_sums(part: &[u8], of: HourSeries, days: u8, summed: Tenths) -> MonthSums
     ensures { λ r. ⌜ (r .high ≡ highPowers (now (part .entry))) × (r .sums ≡ sumsBelow (now (part .entry)) of days (summed .0)) ⌝ }
     ensures fits { λ r. ⌜ (r .sums .asked .0 ≤ mostWord * (24 * days)) × (r .sums .met .0 ≤ mostWord * (24 * days)) ⌝ }
 {
-    let first = low_columns(part, of, days, summed);
-    if first.low {
-        let sums = first.sums;
-        return MonthSums { high: false, sums };
+    if in_columns(part, of, days) {
+        return column_sums(part, days, summed);
     }
     if high_powers(part) {
-        let none = K4 {
-            asked: Tenths(0),
-            met: Tenths(0),
-        };
         return MonthSums {
             high: true,
-            sums: none,
+            sums: none_summed(),
         };
     }
     let sums = k4_sums(part, of.working, of.possible, days, summed);

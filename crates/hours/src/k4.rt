@@ -1,16 +1,11 @@
 // k4's sums over the hours.
 ghost use mathlib.Core.Path.{_≡_};
-ghost use mathlib.Core.Bool.{false};
 ghost use Prim.Native.Nat.{_+_, _*_, _<_, _≤_};
-ghost use lib.ListN.{length};
 ghost use Rattle.rules.specs.Sheet.{series};
-ghost use Rattle.refusals_powers.specs.Powers.{highPowers};
 ghost use Rattle.hours.specs.Series.{Stands, powerIn};
 ghost use Rattle.hours.specs.Sums.{K4Before, k4In};
-ghost use Rattle.hours.specs.Within.{withinMonth};
 use crate::series::power;
 use crate::series::stands;
-use crate::within::within_sums;
 use rules::Series;
 use units::Tenths;
 ghost use Rattle.laws.specs.Bounds.{mostWord};
@@ -103,58 +98,7 @@ fn by_hour(part: &[u8], working: u16, possible: u16, days: u8, summed: Tenths) -
     through_hours(none, part, w, p, 0, 4 * (days as usize), 6, summed)
 }
 
-// The same by column, whatever the powers are.
-fn any_column(part: &[u8], working: u16, possible: u16, days: u8, summed: Tenths) -> K4
-    requires { ⌜ Stands (now part) (series working 4) (24 * days) × Stands (now part) (series possible 4) (24 * days) ⌝ }
-    ensures { λ r. ⌜ K4Before (powerIn (now (part .entry)) (series working 4)) (powerIn (now (part .entry)) (series possible 4)) (summed .0) (24 * days) r ⌝ }
-{
-    let none = K4 {
-        asked: Tenths(0),
-        met: Tenths(0),
-    };
-    let w = Series {
-        start: working,
-        step: 4,
-    };
-    let p = Series {
-        start: possible,
-        step: 4,
-    };
-    through_hours(none, part, w, p, 0, 3 * (days as usize), 8, summed)
-}
-
-// A month by column that the sums within the ceiling are for. Every column begins with a power of the part, and has three bytes after it.
-fn is_within(part: &[u8], working: u16, possible: u16, days: u8) -> bool
-    ensures { λ r. ⌜ r ≡ withinMonth (length (now (part .entry))) working possible days ⌝ }
-{
-    let bytes = 96 * (days as usize);
-    (working % 4 == 0)
-        & ((possible % 4 == 0)
-            & ((working as usize + bytes + 3 <= part.len())
-                & (possible as usize + bytes + 3 <= part.len())))
-}
-
-// The same by column, where no power of the part is above the ceiling. An S above it is as one at it.
-fn within_column(part: &[u8], working: u16, possible: u16, days: u8, summed: Tenths) -> K4
-    requires { ⌜ Stands (now part) (series working 4) (24 * days) × Stands (now part) (series possible 4) (24 * days) ⌝ }
-    requires { ⌜ highPowers (now part) ≡ false ⌝ }
-    ensures { λ r. ⌜ K4Before (powerIn (now (part .entry)) (series working 4)) (powerIn (now (part .entry)) (series possible 4)) (summed .0) (24 * days) r ⌝ }
-{
-    if is_within(part, working, possible, days) {
-        let least = summed.smaller(Tenths(Tenths::CEILING));
-        return within_sums(
-            part,
-            working as usize,
-            possible as usize,
-            24 * (days as usize),
-            least.0 as u32,
-        );
-    }
-    any_column(part, working, possible, days, summed)
-}
-
-// k4's sums over a month of so many days, for a summed capacity S, where no power of the part is above the ceiling. There are none where the part
-// ends before the powers do.
+// k4's sums over a month of so many days, for a summed capacity S. There are none where the part ends before the powers do.
 pub(crate) fn k4_sums(
     part: &[u8],
     working: Series,
@@ -162,7 +106,6 @@ pub(crate) fn k4_sums(
     days: u8,
     summed: Tenths,
 ) -> K4
-    requires { ⌜ highPowers (now part) ≡ false ⌝ }
     ensures { λ r. ⌜ r ≡ k4In (now (part .entry)) working possible days (summed .0) ⌝ }
     ensures fits { λ r. ⌜ (r .asked .0 ≤ mostWord * (24 * days)) × (r .met .0 ≤ mostWord * (24 * days)) ⌝ }
 {
@@ -173,9 +116,6 @@ pub(crate) fn k4_sums(
     let hours = 24 * (days as u16);
     if !(stands(part, working, hours) & stands(part, possible, hours)) {
         return none;
-    }
-    if (working.step == 4) & (possible.step == 4) {
-        return within_column(part, working.start, possible.start, days, summed);
     }
     if (working.step == 12) & (possible.step == 12) {
         return by_hour(part, working.start, possible.start, days, summed);

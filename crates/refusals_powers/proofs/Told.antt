@@ -21,10 +21,10 @@ or-some (suc a) b =
 pub last-some : (a b k : ℕ) → ltb 0 (bitOr a b % 2 ^ k) ≡ (ltb 0 (a % 2 ^ k) || ltb 0 (b % 2 ^ k))
 last-some a b k = ap (ltb 0) (or-mod a b k) ∙ or-some (a % 2 ^ k) (b % 2 ^ k)
 
-inner-some : (a b j k : ℕ) → ltb 0 (bitOr a b / 2 ^ j % 2 ^ k) ≡ (ltb 0 (a / 2 ^ j % 2 ^ k) || ltb 0 (b / 2 ^ j % 2 ^ k))
+pub inner-some : (a b j k : ℕ) → ltb 0 (bitOr a b / 2 ^ j % 2 ^ k) ≡ (ltb 0 (a / 2 ^ j % 2 ^ k) || ltb 0 (b / 2 ^ j % 2 ^ k))
 inner-some a b j k = ap (λ (n : ℕ). ltb 0 (n % 2 ^ k)) (or-shr a b j) ∙ last-some (a / 2 ^ j) (b / 2 ^ j) k
 
-or-three : (p q r s x y : Bool) → ((p || q) || ((r || s) || (x || y))) ≡ ((p || (r || x)) || (q || (s || y)))
+pub or-three : (p q r s x y : Bool) → ((p || q) || ((r || s) || (x || y))) ≡ ((p || (r || x)) || (q || (s || y)))
 or-three p q r s x y = rw (or-swap r s x y) (or-swap p q (r || x) (s || y))
 
 pub marked-joined : (m n : Marks)

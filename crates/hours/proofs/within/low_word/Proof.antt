@@ -29,10 +29,7 @@ little-endian-requires : tie.Need-little-endian-requires
 little-endian-requires c κs = search needs
 
 returns : tie.Need-returns
-returns c =
-    let byte = c .before .shared-slice-known5 .given in
-    let at = c .before .before .before .before .before .before .args .at in
-    (omega (arith, c .little-endian .ensures, byte at), omega (arith, c .little-endian .ensures, byte at, byte (at + 1)))
+returns c = c .little-endian .ensures
 
 pub low-word-spec : {M : Type 1} → statement M
 low-word-spec =

@@ -1,21 +1,20 @@
 use native.Mathlib.Omega.{arith}
-use mir.Syntax.{w32}
 use Rattle.hours.proofs.Signed.{first-smaller, second-smaller}
 use borrow.Author.Needs.{needs}
 use Rattle.hours.proofs.within.smaller.Statement.{statement}
 use Rattle.hours.proofs.within.smaller.Tie as tie
 
-cast-x : tie.Need-cast-x
-cast-x c = search needs
+signed-requires : tie.Need-signed-requires
+signed-requires c κs = search needs
 
-cast-y : tie.Need-cast-y
-cast-y c = search needs
+signed-requires-2 : tie.Need-signed-requires-2
+signed-requires-2 c κs = search needs
 
 returns : tie.Need-returns
-returns c = first-smaller w32 _ _ (omega arith) (omega arith) (c .if1 .taken)
+returns c p q = first-smaller _ _ p q (omega arith) (omega arith) (c .before .before .signed .ensures) (c .before .signed2 .ensures) (c .if1 .taken)
 
 returns-2 : tie.Need-returns-2
-returns-2 c = second-smaller w32 _ _ (omega arith) (omega arith) (c .if1 .left)
+returns-2 c p q = second-smaller _ _ p q (omega arith) (omega arith) (c .before .before .signed .ensures) (c .before .signed2 .ensures) (c .if1 .left)
 
 pub smaller-spec : {M : Type 1} → statement M
-smaller-spec = tie.close (tie.spec cast-x cast-y returns returns-2)
+smaller-spec = tie.close (tie.spec signed-requires signed-requires-2 returns returns-2)

@@ -1,60 +1,77 @@
 use native.Mathlib.Omega.{arith}
-use Prim.Native.Nat.{_-_, _≤_, zero-le}
-use Rattle.rules.specs.Sheet.{series}
-use Rattle.hours.specs.Series.{powerIn}
-use Rattle.hours.specs.Within.{WithinBefore}
-use Rattle.hours.proofs.WithinCeiling.{fewer-within, none-within, all-within}
+use mathlib.Core.Path.{_≡_, sym, _∙_}
+use mathlib.Core.Bool.{not}
+use lib.Dec.{eqb}
+use lib.ListN.{getD}
+use borrow.Author.Tests.{not-true, eqb-true, eq-eqb}
+use Rattle.laws.proofs.Range.{both}
+use Rattle.hours.proofs.LowPowers.{Bytes, four-bytes}
+use Rattle.hours.proofs.WithinMonth.{told-all, none-all, sums-all, none-above}
 use borrow.Author.Needs.{needs}
 use Rattle.hours.proofs.within.within_sums.Statement.{statement}
 use Rattle.hours.proofs.within.within_sums.Tie as tie
 
-abbrev Inv-loop : tie.InvT-loop
-Inv-loop part working possible count summed sums₀ i₀ sums i =
-    WithinBefore (powerIn part (series working 4)) (powerIn part (series possible 4)) summed i sums × (i ≤ count)
+all-within-requires : tie.Need-all-within-requires
+all-within-requires c κs = search needs
 
-abbrev μ-loop : tie.MeasureT-loop
-μ-loop part working possible count summed sums₀ i₀ sums i = count - i
+cast-down : tie.Need-cast-down
+cast-down c = search needs
 
-loop-holds : tie.Need-loop-holds Inv-loop μ-loop
-loop-holds c = (none-within _ _ _, zero-le)
+mul-down : tie.Need-mul-down
+mul-down c = search needs
 
-with-within-requires : tie.Need-with-within-requires Inv-loop μ-loop
-with-within-requires c κs =
-    let s = c .before .before .before in (
-      (fewer-within (s .args .part .now) _ (omega arith) (s .pre .0), fewer-within (s .args .part .now) _ (omega arith) (s .pre .1), omega arith, s .pre .3),
-      c .before .loop .inv .0,
-    )
+wrapping-add-u32-requires : tie.Need-wrapping-add-u32-requires
+wrapping-add-u32-requires c κs = search needs
 
-add-i : tie.Need-add-i Inv-loop μ-loop
-add-i c = omega arith
-
-loop-less : tie.Need-loop-less Inv-loop μ-loop
-loop-less c = omega arith
-
-loop-again : tie.Need-loop-again Inv-loop μ-loop
-loop-again c = (c .with-within .ensures, omega arith)
-
-stated-requires : tie.Need-stated-requires Inv-loop μ-loop
+stated-requires : tie.Need-stated-requires
 stated-requires c κs = search needs
 
-stated-requires-2 : tie.Need-stated-requires-2 Inv-loop μ-loop
+wrapping-add-u32-requires-2 : tie.Need-wrapping-add-u32-requires-2
+wrapping-add-u32-requires-2 c κs = search needs
+
+stated-requires-2 : tie.Need-stated-requires-2
 stated-requires-2 c κs = search needs
 
-returns : tie.Need-returns Inv-loop μ-loop
+shared-slice-read-t12 : tie.Need-shared-slice-read-t12
+shared-slice-read-t12 c = search needs
+
+told-high-requires : tie.Need-told-high-requires
+told-high-requires c κs = search needs
+
+returns : tie.Need-returns
 returns c =
-    all-within _ _ _ (omega arith) (c .before .before .before .loop .inv .0) (c .before .stated .ensures .0) (c .stated2 .ensures .0)
+    let met = c .before .before in
+    let asked = met .before .before in
+    let k = asked .before .before in
+    let s = k .before .before in
+    let part = s .args .part .now in
+    let hours = s .args .hours in
+    let bytes : Bytes part = λ i. omega (arith, k .before .shared-slice-known .given i) in
+    let all = k .all-within .ensures in
+    let asked-is = asked .stated .ensures .0 ∙ asked .before .wrapping-add-u32 .ensures in
+    let met-is = met .stated2 .ensures .0 ∙ met .before .wrapping-add-u322 .ensures in (
+      λ e.
+          let two = both (eqb (getD part 0 0) 0) (not (c .told-high .result)) e in
+          let within = told-all part hours (s .args .summed) bytes all (eqb-true _ _ (two .0)) (sym (c .told-high .ensures) ∙ not-true _ (two .1)) in
+          let sums = sums-all part hours (s .args .summed) bytes all (s .pre .3) (s .pre .2) within in
+          (within, (asked-is ∙ sums .0, met-is ∙ sums .1, rw asked-is (sums .2), rw met-is (sums .3))),
+      λ none.
+          let within = none-above part hours (s .pre .0) none in
+          let first : getD part 0 0 ≡ 0 = omega (arith, four-bytes part 0, within 0 (omega arith)) in
+          rw (eq-eqb (getD part 0 0) 0 first, c .told-high .ensures, none-all part hours (s .args .summed) bytes all (λ j l. within j (omega arith))),
+    )
 
 pub within-sums-spec : {M : Type 1} → statement M
 within-sums-spec =
     tie.close
     (tie.spec
-    Inv-loop
-    μ-loop
-    loop-holds
-    with-within-requires
-    add-i
-    loop-less
-    loop-again
+    all-within-requires
+    cast-down
+    mul-down
+    wrapping-add-u32-requires
     stated-requires
+    wrapping-add-u32-requires-2
     stated-requires-2
+    shared-slice-read-t12
+    told-high-requires
     returns)
