@@ -62,10 +62,10 @@ fn low_columns(part: &[u8], of: HourSeries, days: u8, summed: Tenths) -> LowSums
         },
     };
     let column = 96 * (days as usize);
-    if !(in_columns(part, of, days) & (summed.0 <= 32767)) {
+    if !(in_columns(part, of, days) & (summed.0 <= 65535)) {
         return none;
     }
-    if (32767 < word(part, 0)) | (32767 < word(part, column)) {
+    if (65535 < word(part, 0)) | (65535 < word(part, column)) {
         return none;
     }
     let tried = low_sums(part, days as usize, summed.0 as u16);

@@ -22,17 +22,17 @@ returns : tie.Need-returns
 returns c e = absurd (true≢false (sym e))
 
 -- The part is a month of columns, and S is low.
-columns : (c : tie.Else1) → (let a = c .before .before .before .before .args in Columns (length (a .part .now)) (a .of) (a .days) × (a .summed .0 ≤ 32767))
+columns : (c : tie.Else1) → (let a = c .before .before .before .before .args in Columns (length (a .part .now)) (a .of) (a .days) × (a .summed .0 ≤ 65535))
 columns c =
     let a = c .before .before .before .before .args in
-    let two = both (c .before .before .in-columns .result) (leb (a .summed .0) 32767) (not-false _ (c .if1 .left)) in
+    let two = both (c .before .before .in-columns .result) (leb (a .summed .0) 65535) (not-false _ (c .if1 .left)) in
     (columns-are _ _ _ (sym (c .before .before .in-columns .ensures) ∙ two .0), leb-true _ _ (two .1))
 
 -- The first powers are low.
-firsts : (c : tie.Else2) → (let a = c .before .before .before .before .before .before .before .args in (bigEndian 4 (a .part .now) 0 ≤ 32767) × (bigEndian 4 (a .part .now) (96 * a .days) ≤ 32767))
+firsts : (c : tie.Else2) → (let a = c .before .before .before .before .before .before .before .args in (bigEndian 4 (a .part .now) 0 ≤ 65535) × (bigEndian 4 (a .part .now) (96 * a .days) ≤ 65535))
 firsts c =
-    let one = or-left (ltb 32767 (c .before .before .word .result)) _ (c .if2 .left) in
-    let other = or-right (ltb 32767 (c .before .before .word .result)) _ (c .if2 .left) in
+    let one = or-left (ltb 65535 (c .before .before .word .result)) _ (c .if2 .left) in
+    let other = or-right (ltb 65535 (c .before .before .word .result)) _ (c .if2 .left) in
     (rw (← c .before .before .word .ensures) (ltb-false _ _ one), rw (← c .before .word2 .ensures) (ltb-false _ _ other))
 
 word-requires : tie.Need-word-requires
