@@ -25,7 +25,7 @@ turn-none g q a k i l e none =
     let bits : bitsIn g (k % 8) q ≡ 0 = rw (← a .each (k % 8) lane, ← e) none in
     rw name at (each-none (λ t. g (8 * t + k % 8)) q bits (k / 8) (omega arith))
 
--- The lanes of the places where first two bytes of powers are read, and of the others.
+-- The lanes of odd turns, which read first two bytes of powers in the first half of the month, and of even ones, which do so in the second.
 odd-lane : (k : ℕ) → k % 2 ≡ 1 → (2 * (k % 8 / 2) + 1 ≡ k % 8) × (k % 8 / 2 < 4)
 odd-lane k e = (omega arith, omega arith)
 

@@ -84,7 +84,7 @@ module _ (s : List ℕ) (bytes : Bytes s) (start half k : ℕ) (column : LowHour
           ∙ low-turned s bytes (start + 4 * (half + k / 2)) (column .low (half + k / 2) (omega arith))
           ∙ ap powerAt (sym (second-half half k odd))
 
--- A column is low where its first power is, and where nothing else was read in turns.
+-- A column is low where its first power is, and where no turn read a bit in first two bytes.
 module _ (s : List ℕ) (bytes : Bytes s) (start half : ℕ) (stand : start + 8 * half ≤ length s) (first : bigEndian 4 s start ≤ 65535)
     (near-front : (k : ℕ) → k < 2 * half → k % 2 ≡ 1 → nearPair s start k ≡ 0) (far-front : (k : ℕ) → k < 2 * half → k % 2 ≡ 0 → farPair s start half k ≡ 0) where
   read : {a b : ℕ} → a ≡ b → pairAt s a ≡ pairAt s b
