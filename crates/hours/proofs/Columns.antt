@@ -59,7 +59,7 @@ columns-are bytes of days e =
 module _ (part : List ℕ) (of : HourSeries) (days : ℕ) (columns : Columns (length part) of days) where
   -- Number 9, where two columns are low and the third was tried.
   module _ (working : LowHours part 0 (12 * days)) (possible : LowHours part (96 * days) (12 * days)) where
-    low-high : (x : ℕ) → x ≤ 32767 → tooHigh x ≡ false
+    low-high : (x : ℕ) → x ≤ 65535 → tooHigh x ≡ false
     unfolding tooHigh
     low-high x l = le-ltb 100000 x (omega arith)
 

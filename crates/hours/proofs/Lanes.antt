@@ -2,20 +2,21 @@
 use mathlib.Core.Path.{_≡_, refl, sym, ap, ap₂, _∙_}
 use mathlib.Core.Bool.{Bool, true, false, cond}
 use mathlib.Core.List.{List}
-use Prim.Native.Nat.{ℕ, zero, suc, _+_, _-_, _*_, _/_, _%_, _≤_, _<_, zero-le, min}
+use Prim.Native.Nat.{ℕ, zero, suc, _+_, _*_, _/_, _%_, _≤_, _<_, zero-le}
+use native.Mathlib.Nat.{zero-mul, suc-mul}
 use native.Mathlib.Numerals.{add-one}
 use native.Mathlib.Omega.{arith}
-use lib.Bits.{bitOr, or-shr, or-mod}
+use lib.Bits.{bitOr}
 use lib.Dec.{ltb}
-use lib.ListN.{length, getD, set, replicate}
+use lib.ListN.{getD, set, replicate}
 use borrow.Author.Tests.{ltb-true, ltb-false, lt-ltb, le-ltb}
 use Rattle.rules.specs.Range.{sum}
-use Rattle.laws.proofs.Range.{sum-more, sum-same, sum-fold, sum-le}
+use Rattle.laws.proofs.Range.{sum-more, sum-fold, sum-le}
 use Rattle.laws.proofs.Arrays.{Agrees, agrees-as, agrees-set, agrees-filled}
 use Rattle.laws.proofs.ControlHours.{sum-append}
 use Rattle.fields.proofs.Bits.{or-none}
 use Rattle.hours.specs.declared.low.Lanes.{Lanes}
-use Rattle.hours.specs.Low.{turnAsked, turnMet, turnNear, turnFar, allBits, leftIn, upperIn, bitsIn, LanesBy, Whole}
+use Rattle.hours.specs.Low.{turnCut, turnShort, turnNear, turnFar, allBits, leftIn, upperIn, bitsIn, LanesBy, Whole}
 
 -- How many turns lane j has had, where the lanes before lane i have had one more.
 abbrev pub upTo : ℕ → ℕ → ℕ → ℕ
@@ -57,55 +58,51 @@ module _ (f : ℕ → ℕ) (i q : ℕ) where
       bits-next : (g : ℕ → ℕ) (n : ℕ) → allBits g (n + 1) ≡ bitOr (allBits g n) (g n)
       bits-next g n = rw (add-one n) (unfold allBits in refl)
 
-  -- Upper bytes of numbers up to 32,767 are at most 127 each.
-  pub upper-few : ((k : ℕ) → f k ≤ 32767) → upperIn f i q ≤ 127 * q
-  upper-few few = omega (arith, sum-le (λ t. f (8 * t + i) / 256) 127 q (λ t l. upper (f (8 * t + i)) (few (8 * t + i))))
+  -- Upper bytes of numbers up to 65,535 are at most 255 each.
+  pub upper-few : ((k : ℕ) → f k ≤ 65535) → upperIn f i q ≤ 255 * q
+  upper-few few = omega (arith, sum-le (λ t. f (8 * t + i) / 256) 255 q (λ t l. upper (f (8 * t + i)) (few (8 * t + i))))
     where
-      upper : (x : ℕ) → x ≤ 32767 → x / 256 ≤ 127
+      upper : (x : ℕ) → x ≤ 65535 → x / 256 ≤ 255
       upper x l = omega arith
 
 -- There is room for the upper byte of one more.
-pub upper-room : (f : ℕ → ℕ) → ((k : ℕ) → f k ≤ 32767) → (q i : ℕ) {xs : List ℕ} {v : ℕ} → q < 256 → i < 8 → Agrees 8 0 (λ j. upperIn f j (upTo q i j)) xs → v ≡ f (8 * q + i)
+pub upper-room : (f : ℕ → ℕ) → ((k : ℕ) → f k ≤ 65535) → (q i : ℕ) {xs : List ℕ} {v : ℕ} → q < 256 → i < 8 → Agrees 8 0 (λ j. upperIn f j (upTo q i j)) xs → v ≡ f (8 * q + i)
     → getD xs i 0 + v / 256 ≤ 65535
 upper-room f few q i l b a e = room _ _ q l (lane-held (upperIn f) q i b a) (upper-few f i q few) (few (8 * q + i)) e
   where
-    room : (x v q : ℕ) {u w : ℕ} → q < 256 → x ≡ u → u ≤ 127 * q → w ≤ 32767 → v ≡ w → x + v / 256 ≤ 65535
+    room : (x v q : ℕ) {u w : ℕ} → q < 256 → x ≡ u → u ≤ 255 * q → w ≤ 65535 → v ≡ w → x + v / 256 ≤ 65535
     room x v q l e f g h = omega arith
 
--- Of numbers joined no bit in all is none in any, and none at a place in all is none there in any.
-pub low-both : (a b : ℕ) → bitOr a b / 128 % 2 ≡ 0 → (a / 128 % 2 ≡ 0) × (b / 128 % 2 ≡ 0)
-low-both a b e =
-    or-none (a / 128 % 2) (b / 128 % 2) (sym (or-mod (a / 128) (b / 128) 1) ∙ ap (λ (x : ℕ). x % 2) (sym (or-shr a b 7)) ∙ e)
-
--- What joined numbers keep of each.
-module _ (kept : ℕ → Type 0) (both : (a b : ℕ) → kept (bitOr a b) → kept a × kept b) (g : ℕ → ℕ) where
-  last-or-before : (n t : ℕ) → kept (g n) → (t < n → kept (g t)) → t < suc n → kept (g t)
+-- Of numbers joined no bit in all is none in any.
+module _ (g : ℕ → ℕ) where
+  last-or-before : (n t : ℕ) → g n ≡ 0 → (t < n → g t ≡ 0) → t < suc n → g t ≡ 0
   last-or-before n t last before l = go (ltb t n) refl
     where
-      go : (b : Bool) → ltb t n ≡ b → kept (g t)
+      go : (b : Bool) → ltb t n ≡ b → g t ≡ 0
       go true p = before (ltb-true t n p)
       go false p =
           let same : t ≡ n = omega (arith, ltb-false t n p) in
           rw same last
 
-  pub each-bit : (n : ℕ) → kept (allBits g n) → (t : ℕ) → t < n → kept (g t)
+  pub each-none : (n : ℕ) → allBits g n ≡ 0 → (t : ℕ) → t < n → g t ≡ 0
   unfolding allBits
-  each-bit zero e t l = absurd (omega arith)
-  each-bit (suc n) e t l = last-or-before n t (both (allBits g n) (g n) e .1) (λ b. each-bit n (both (allBits g n) (g n) e .0) t b) l
+  each-none zero e t l = absurd (omega arith)
+  each-none (suc n) e t l =
+      let two = or-none (allBits g n) (g n) e in
+      last-or-before n t (two .1) (λ b. each-none n (two .0) t b) l
 
--- What a loop keeps of two families of numbers that it joins.
-abbrev pub KeptOf : (ℕ → Type 0) → (ℕ → ℕ) → (ℕ → ℕ) → ℕ → ℕ → Type 0
-KeptOf kept u v i bits = kept bits → (j : ℕ) → j < i → kept (u j) × kept (v j)
+-- What a loop knows of two families of numbers that it joins.
+abbrev pub NoneIn : (ℕ → ℕ) → (ℕ → ℕ) → ℕ → ℕ → Type 0
+NoneIn u v i bits = bits ≡ 0 → (j : ℕ) → j < i → (u j ≡ 0) × (v j ≡ 0)
 
-pub kept-more : (kept : ℕ → Type 0) → ((a b : ℕ) → kept (bitOr a b) → kept a × kept b) → (u v : ℕ → ℕ) (i bits : ℕ) → KeptOf kept u v i bits
-    → KeptOf kept u v (i + 1) (bitOr bits (bitOr (u i) (v i)))
-kept-more kept both u v i bits before e j l = go (ltb j i) refl
+pub none-more : (u v : ℕ → ℕ) (i bits : ℕ) → NoneIn u v i bits → NoneIn u v (i + 1) (bitOr bits (bitOr (u i) (v i)))
+none-more u v i bits before e j l = go (ltb j i) refl
   where
-    go : (b : Bool) → ltb j i ≡ b → kept (u j) × kept (v j)
-    go true p = before (both bits (bitOr (u i) (v i)) e .0) j (ltb-true j i p)
+    go : (b : Bool) → ltb j i ≡ b → (u j ≡ 0) × (v j ≡ 0)
+    go true p = before (or-none bits (bitOr (u i) (v i)) e .0) j (ltb-true j i p)
     go false p =
         let same : j ≡ i = omega (arith, ltb-false j i p) in
-        rw same (both (u i) (v i) (both bits (bitOr (u i) (v i)) e .1))
+        rw same (or-none (u i) (v i) (or-none bits (bitOr (u i) (v i)) e .1))
 
 -- A sum is that of the upper bytes, 256 times, and that of the lower ones, which are at most 255 each.
 split-sum : (f : ℕ → ℕ) (n : ℕ) → (sum (λ i. f i / 256) n * 256 ≤ sum f n) × (sum f n ≤ sum (λ i. f i / 256) n * 256 + 255 * n)
@@ -122,12 +119,18 @@ whole-sum f n {left} {upper} {r} few is-left is-upper w =
     within : (a b u : ℕ) → a % 65536 ≡ b % 65536 → u * 256 ≤ a → a < u * 256 + 65536 → u * 256 ≤ b → b < u * 256 + 65536 → a ≡ b
     within a b u e p q x y = omega arith
 
--- The lanes one after the other are all turns.
-sum-both : (g h k : ℕ → ℕ) (n : ℕ) → ((i : ℕ) → k i ≡ g i + h i) → sum k n ≡ sum g n + sum h n
+-- The sum of two numbers at each place, and of the same number at each.
+pub sum-both : (g h k : ℕ → ℕ) (n : ℕ) → ((i : ℕ) → k i ≡ g i + h i) → sum k n ≡ sum g n + sum h n
 unfolding sum
 sum-both g h k zero e = refl
 sum-both g h k (suc n) e = omega (arith, sum-both g h k n e, e n)
 
+pub sum-all : (b n : ℕ) → sum (λ i. b) n ≡ n * b
+unfolding sum
+sum-all b zero = rw zero-mul
+sum-all b (suc n) = rw suc-mul (omega (arith, sum-all b n))
+
+-- The lanes one after the other are all turns.
 pub all-lanes : (f : ℕ → ℕ) (q : ℕ) → sum (λ i. sum (λ t. f (8 * t + i)) q) 8 ≡ sum f (8 * q)
 all-lanes f zero = unfold sum in refl
 all-lanes f (suc q) = more f q (all-lanes f q)
@@ -150,10 +153,10 @@ module _ (part : List ℕ) (half S q : ℕ) where
   pub lanes-started : {k : Lanes} → LanesBy part half S (λ j. q) k → LanesBy part half S (upTo q 0) k
   lanes-started k =
       record {
-        asked-are = lanes-begin (leftIn (turnAsked part half S)) q (k .asked-are);
-        upper-are = lanes-begin (upperIn (turnAsked part half S)) q (k .upper-are);
-        met-are = lanes-begin (leftIn (turnMet part half S)) q (k .met-are);
-        over-are = lanes-begin (upperIn (turnMet part half S)) q (k .over-are);
+        cut-are = lanes-begin (leftIn (turnCut part half S)) q (k .cut-are);
+        upper-are = lanes-begin (upperIn (turnCut part half S)) q (k .upper-are);
+        short-are = lanes-begin (leftIn (turnShort part half S)) q (k .short-are);
+        over-are = lanes-begin (upperIn (turnShort part half S)) q (k .over-are);
         near-are = lanes-begin (bitsIn (turnNear part half)) q (k .near-are);
         far-are = lanes-begin (bitsIn (turnFar part half)) q (k .far-are);
       }
@@ -161,34 +164,34 @@ module _ (part : List ℕ) (half S q : ℕ) where
   pub lanes-done : (i : ℕ) {k : Lanes} → 8 ≤ i → LanesBy part half S (upTo q i) k → LanesBy part half S (λ j. q + 1) k
   lanes-done i l k =
       record {
-        asked-are = lanes-end (leftIn (turnAsked part half S)) q i l (k .asked-are);
-        upper-are = lanes-end (upperIn (turnAsked part half S)) q i l (k .upper-are);
-        met-are = lanes-end (leftIn (turnMet part half S)) q i l (k .met-are);
-        over-are = lanes-end (upperIn (turnMet part half S)) q i l (k .over-are);
+        cut-are = lanes-end (leftIn (turnCut part half S)) q i l (k .cut-are);
+        upper-are = lanes-end (upperIn (turnCut part half S)) q i l (k .upper-are);
+        short-are = lanes-end (leftIn (turnShort part half S)) q i l (k .short-are);
+        over-are = lanes-end (upperIn (turnShort part half S)) q i l (k .over-are);
         near-are = lanes-end (bitsIn (turnNear part half)) q i l (k .near-are);
         far-are = lanes-end (bitsIn (turnFar part half)) q i l (k .far-are);
       }
 
-  -- m, and what is met of it, are low where S is.
-  pub few-asked : S ≤ 32767 → (k : ℕ) → turnAsked part half S k ≤ 32767
-  few-asked l k = omega arith
+  -- What is cut off S and what is not met of the rest is low where S is.
+  pub few-cut : S ≤ 65535 → (k : ℕ) → turnCut part half S k ≤ 65535
+  few-cut l k = omega arith
 
-  pub few-met : S ≤ 32767 → (k : ℕ) → turnMet part half S k ≤ 32767
-  few-met l k = omega arith
+  pub few-short : S ≤ 65535 → (k : ℕ) → turnShort part half S k ≤ 65535
+  few-short l k = omega arith
 
 -- No turns yet; and a number of turns with two names.
 module _ (part : List ℕ) (half S : ℕ) where
   none-held : (held : ℕ → ℕ → ℕ) → ((j : ℕ) → 0 ≡ held j 0) → Agrees 8 0 (λ j. held j 0) (replicate 8 0)
   none-held held e = agrees-filled 8 0 0 (λ j l. e j)
 
-  pub no-lanes : LanesBy part half S (λ j. 0) (record { asked = replicate 8 0; upper = replicate 8 0; met = replicate 8 0; over = replicate 8 0; near = replicate 8 0; far = replicate 8 0 })
+  pub no-lanes : LanesBy part half S (λ j. 0) (record { cut = replicate 8 0; upper = replicate 8 0; short = replicate 8 0; over = replicate 8 0; near = replicate 8 0; far = replicate 8 0 })
   unfolding sum allBits
   no-lanes =
       record {
-        asked-are = none-held (leftIn (turnAsked part half S)) (λ j. refl);
-        upper-are = none-held (upperIn (turnAsked part half S)) (λ j. refl);
-        met-are = none-held (leftIn (turnMet part half S)) (λ j. refl);
-        over-are = none-held (upperIn (turnMet part half S)) (λ j. refl);
+        cut-are = none-held (leftIn (turnCut part half S)) (λ j. refl);
+        upper-are = none-held (upperIn (turnCut part half S)) (λ j. refl);
+        short-are = none-held (leftIn (turnShort part half S)) (λ j. refl);
+        over-are = none-held (upperIn (turnShort part half S)) (λ j. refl);
         near-are = none-held (bitsIn (turnNear part half)) (λ j. refl);
         far-are = none-held (bitsIn (turnFar part half)) (λ j. refl);
       }

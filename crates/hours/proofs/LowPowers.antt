@@ -28,30 +28,21 @@ Bytes s = (i : ℕ) → getD s i 0 ≤ 255
 
 -- A low power has two bytes of 0, and is the number in the other two; and the other way round.
 module _ (s : List ℕ) (bytes : Bytes s) (at : ℕ) where
-  pub low-front : bigEndian 4 s at ≤ 32767 → pairAt s at ≡ 0
+  pub low-front : bigEndian 4 s at ≤ 65535 → pairAt s at ≡ 0
   low-front low = omega (arith, low, four-bytes s at)
 
-  pub low-turned : bigEndian 4 s at ≤ 32767 → turnedPair (pairAt s (at + 2)) ≡ bigEndian 4 s at
+  pub low-turned : bigEndian 4 s at ≤ 65535 → turnedPair (pairAt s (at + 2)) ≡ bigEndian 4 s at
   low-turned low =
       let next : at + 2 + 1 ≡ at + 3 = omega arith in
       let third : pairAt s (at + 2) ≡ getD s (at + 2) 0 + getD s (at + 3) 0 * 256 = ap (λ (n : ℕ). getD s (at + 2) 0 + getD s n 0 * 256) next in
       let whole : bigEndian 4 s at ≡ getD s (at + 2) 0 * 256 + getD s (at + 3) 0 = omega (arith, low, four-bytes s at) in
-      turned (getD s (at + 2) 0) (getD s (at + 3) 0) third (omega (arith, low, whole)) (bytes (at + 3)) ∙ sym whole
+      turned (getD s (at + 2) 0) (getD s (at + 3) 0) third (bytes (at + 2)) ∙ sym whole
     where
-      turned : (a b : ℕ) {x : ℕ} → x ≡ a + b * 256 → a ≤ 127 → b ≤ 255 → turnedPair x ≡ a * 256 + b
-      turned a b e p q = rw e (omega arith)
+      turned : (a b : ℕ) {x : ℕ} → x ≡ a + b * 256 → a ≤ 255 → turnedPair x ≡ a * 256 + b
+      turned a b e p = rw e (omega arith)
 
-  pub low-from : pairAt s at ≡ 0 → pairAt s (at + 2) / 128 % 2 ≡ 0 → bigEndian 4 s at ≤ 32767
-  low-from front other =
-      let next : at + 2 + 1 ≡ at + 3 = omega arith in
-      let third : pairAt s (at + 2) ≡ getD s (at + 2) 0 + getD s (at + 3) 0 * 256 = ap (λ (n : ℕ). getD s (at + 2) 0 + getD s n 0 * 256) next in
-      omega (arith, four-bytes s at, front, small (getD s (at + 2) 0) (getD s (at + 3) 0) third (bytes (at + 2)) other, bytes (at + 3))
-    where
-      small : (a b : ℕ) {x : ℕ} → x ≡ a + b * 256 → a ≤ 255 → x / 128 % 2 ≡ 0 → a ≤ 127
-      small a b e p f =
-          let upper : (a + b * 256) / 128 ≡ a / 128 + b * 2 = omega arith in
-          let even : (a / 128 + b * 2) % 2 ≡ 0 = rw (← upper, ← e) f in
-          omega (arith, even)
+  pub low-from : pairAt s at ≡ 0 → bigEndian 4 s at ≤ 65535
+  low-from front = omega (arith, four-bytes s at, front, bytes (at + 2), bytes (at + 3))
 
 -- The hour of a turn.
 module _ (half k : ℕ) where
@@ -93,32 +84,26 @@ module _ (s : List ℕ) (bytes : Bytes s) (start half k : ℕ) (column : LowHour
           ∙ low-turned s bytes (start + 4 * (half + k / 2)) (column .low (half + k / 2) (omega arith))
           ∙ ap powerAt (sym (second-half half k odd))
 
--- A column is low where its first power is, and where nothing else was read in turns.
-module _ (s : List ℕ) (bytes : Bytes s) (start half : ℕ) (stand : start + 8 * half ≤ length s) (first : bigEndian 4 s start ≤ 32767)
-    (near-front : (k : ℕ) → k < 2 * half → k % 2 ≡ 1 → nearPair s start k ≡ 0) (far-front : (k : ℕ) → k < 2 * half → k % 2 ≡ 0 → farPair s start half k ≡ 0)
-    (near-other : (k : ℕ) → k < 2 * half → k % 2 ≡ 0 → nearPair s start k / 128 % 2 ≡ 0)
-    (far-other : (k : ℕ) → k < 2 * half → k % 2 ≡ 1 → farPair s start half k / 128 % 2 ≡ 0) where
+-- A column is low where its first power is, and where no turn read a bit in first two bytes.
+module _ (s : List ℕ) (bytes : Bytes s) (start half : ℕ) (stand : start + 8 * half ≤ length s) (first : bigEndian 4 s start ≤ 65535)
+    (near-front : (k : ℕ) → k < 2 * half → k % 2 ≡ 1 → nearPair s start k ≡ 0) (far-front : (k : ℕ) → k < 2 * half → k % 2 ≡ 0 → farPair s start half k ≡ 0) where
   read : {a b : ℕ} → a ≡ b → pairAt s a ≡ pairAt s b
   read e = ap (pairAt s) e
 
-  in-first : (i : ℕ) → i + 1 < half → bigEndian 4 s (start + 4 * (i + 1)) ≤ 32767
-  in-first i l =
-      low-from s bytes (start + 4 * (i + 1)) (read (omega arith) ∙ near-front (2 * i + 1) (omega arith) (omega arith))
-      (ap (λ (x : ℕ). x / 128 % 2) (read (omega arith)) ∙ near-other (2 * (i + 1)) (omega arith) (omega arith))
+  in-first : (i : ℕ) → i + 1 < half → bigEndian 4 s (start + 4 * (i + 1)) ≤ 65535
+  in-first i l = low-from s bytes (start + 4 * (i + 1)) (read (omega arith) ∙ near-front (2 * i + 1) (omega arith) (omega arith))
 
-  in-second : (i : ℕ) → i < half → bigEndian 4 s (start + 4 * (half + i)) ≤ 32767
-  in-second i l =
-      low-from s bytes (start + 4 * (half + i)) (read (omega arith) ∙ far-front (2 * i) (omega arith) (omega arith))
-      (ap (λ (x : ℕ). x / 128 % 2) (read (omega arith)) ∙ far-other (2 * i + 1) (omega arith) (omega arith))
+  in-second : (i : ℕ) → i < half → bigEndian 4 s (start + 4 * (half + i)) ≤ 65535
+  in-second i l = low-from s bytes (start + 4 * (half + i)) (read (omega arith) ∙ far-front (2 * i) (omega arith) (omega arith))
 
-  each : (i : ℕ) → i < 2 * half → bigEndian 4 s (start + 4 * i) ≤ 32767
+  each : (i : ℕ) → i < 2 * half → bigEndian 4 s (start + 4 * i) ≤ 65535
   each zero l = rw (here start) first
     where
       here : (x : ℕ) → x + 4 * 0 ≡ x
       here x = omega arith
   each (suc i) l = go (ltb (suc i) half) refl
     where
-      go : (b : Bool) → ltb (suc i) half ≡ b → bigEndian 4 s (start + 4 * suc i) ≤ 32767
+      go : (b : Bool) → ltb (suc i) half ≡ b → bigEndian 4 s (start + 4 * suc i) ≤ 65535
       go true e =
           let name : start + 4 * suc i ≡ start + 4 * (i + 1) = omega arith in
           rw name (in-first i (omega (arith, ltb-true (suc i) half e)))

@@ -14,8 +14,8 @@ ghost use Rattle.hours.specs.Within.{PowersWithin};
 ghost use Rattle.hours.specs.Figures.{isColumn, inColumns, sumsBelow, hourFigures};
 use crate::control::outside_average;
 use crate::k4::K4;
+use crate::k4::TriedSums;
 use crate::k4::k4_sums;
-use crate::low::LowSums;
 use crate::low::low_sums;
 use crate::within::within_sums;
 use calendar::ControlDays;
@@ -56,18 +56,18 @@ fn is_column(x: Series, start: usize) -> bool
 
 // k4's sums of a month of columns, right where no power of the part is above the ceiling. They are not called right where a working or a possible power
 // is. A month that begins with low powers is taken for a low one first.
-fn tried_sums(part: &[u8], days: u8, summed: Tenths) -> LowSums
+fn tried_sums(part: &[u8], days: u8, summed: Tenths) -> TriedSums
     requires { ⌜ (length (now part) ≡ 3 * (96 * days)) × (1 ≤ days) × (days ≤ 31) ⌝ }
-    ensures { λ r. ⌜ (r .low ≡ true → PowersWithin (now (part .entry)) (48 * days)
+    ensures { λ r. ⌜ (r .right ≡ true → PowersWithin (now (part .entry)) (48 * days)
         × K4Before (powerIn (now (part .entry)) (series 0 4)) (powerIn (now (part .entry)) (series (96 * days) 4)) (summed .0) (24 * days) (r .sums)) ⌝ }
-    ensures { λ r. ⌜ (highPowers (now (part .entry)) ≡ false → r .low ≡ true) ⌝ }
+    ensures { λ r. ⌜ (highPowers (now (part .entry)) ≡ false → r .right ≡ true) ⌝ }
 {
     let column = 96 * (days as usize);
     let first = word(part, 0);
     let second = word(part, column);
-    if (summed.0 <= 32767) & ((first <= 32767) & (second <= 32767)) {
+    if (summed.0 <= 65535) & ((first <= 65535) & (second <= 65535)) {
         let low = low_sums(part, days as usize, summed.0 as u16);
-        if low.low {
+        if low.right {
             return low;
         }
     }
@@ -101,7 +101,7 @@ fn column_sums(part: &[u8], days: u8, summed: Tenths) -> MonthSums
 {
     let tried = tried_sums(part, days, summed);
     let outside = 192 * (days as usize);
-    if !tried.low | high_powers(&part[outside..]) {
+    if !tried.right | high_powers(&part[outside..]) {
         return MonthSums {
             high: true,
             sums: none_summed(),

@@ -16,6 +16,12 @@ pub struct K4 {
     pub met: Tenths,
 }
 
+// k4's sums that were taken as if every power were low enough for the work, and whether they are right.
+pub(crate) struct TriedSums {
+    pub(crate) right: bool,
+    pub(crate) sums: K4,
+}
+
 // k4's sums with hour i, for a summed capacity S.
 fn with_hour(k: K4, part: &[u8], working: Series, possible: Series, i: usize, summed: Tenths) -> K4
     requires { ⌜ Stands (now part) working (i + 1) × Stands (now part) possible (i + 1) × (i < 7000) ⌝ }

@@ -1,25 +1,27 @@
-// k4's sums over a month by column whose powers are all low, below 32,768, so that their first two bytes are 0. The last two bytes of a power and the
+// k4's sums over a month by column whose powers are all low, below 65,536, so that their first two bytes are 0. The last two bytes of a power and the
 // first two of the power half a month later are read as 16 bits and joined, then the first two of the next power and the last two of the other, and so on
-// in turn: each time it is the power of one of the two hours. Eight turns are taken at once, each in a lane of its own, and the bits that a power
-// would leave that is not low are kept, so that nothing need be known of the powers beforehand.
+// in turn: each time it is the power of one of the two hours. What possible powers cut off S and what is not met of m are summed: m is what is left of S,
+// and met is what is left of m. Eight turns are taken at once, each in a lane of its own, and the bits that a power would leave that is not low are kept,
+// so that nothing need be known of the powers beforehand.
 ghost use mathlib.Core.Path.{_≡_};
 ghost use mathlib.Core.Bool.{true};
-ghost use Prim.Native.Nat.{ℕ, _+_, _*_, _/_, _%_, _<_, _≤_, min};
-ghost use lib.ListN.{length, getD};
+ghost use Prim.Native.Nat.{_+_, _*_, _/_, _%_, _-_, _<_, _≤_};
+ghost use lib.ListN.{length};
 ghost use Rattle.rules.specs.Fields.{bigEndian};
 ghost use Rattle.rules.specs.Sheet.{series};
 ghost use Rattle.hours.specs.Series.{powerIn};
 ghost use Rattle.hours.specs.Sums.{K4Before};
 ghost use Rattle.hours.specs.Low.{pairAt, turnedPair, turnAdds, LanesAfter, Whole, LanesSum, Clear, LowHours};
 use crate::k4::K4;
+use crate::k4::TriedSums;
 use units::Tenths;
 
-// What eight lanes hold: the sums of m and of what was met of it, which past 65,535 begin again at 0, the sums of their upper bytes, and the bits of all
-// pairs that were read from the first half of the month and from the second.
+// What eight lanes hold: the sums of what was cut off S and of what was not met of m, which past 65,535 begin again at 0, the sums of their upper bytes,
+// and the bits of all pairs that were read from the first half of the month and from the second.
 struct Lanes {
-    asked: [u16; 8],
+    cut: [u16; 8],
     upper: [u16; 8],
-    met: [u16; 8],
+    short: [u16; 8],
     over: [u16; 8],
     near: [u16; 8],
     far: [u16; 8],
@@ -27,8 +29,8 @@ struct Lanes {
 
 // What one turn adds to its lane.
 struct Added {
-    asked: u16,
-    met: u16,
+    cut: u16,
+    short: u16,
     near: u16,
     far: u16,
 }
@@ -47,26 +49,23 @@ fn pair(s: &[u8], at: usize) -> u16
     wide(s[at]) + wide(s[at + 1]) * 256
 }
 
-// The number whose bytes these are, without its highest bit.
+// The number whose bytes these are.
 fn turned(x: u16) -> u16
-    ensures { λ r. ⌜ (r ≡ turnedPair x) × (r ≤ 32767) ⌝ }
+    ensures { λ r. ⌜ (r ≡ turnedPair x) × (r ≤ 65535) ⌝ }
 {
-    x % 128 * 256 + x / 256
+    x % 256 * 256 + x / 256
 }
 
-// Compared with a sign, for which the machine has an instruction.
-fn smaller(a: u16, b: u16) -> u16
-    requires { ⌜ (a ≤ 32767) × (b ≤ 32767) ⌝ }
-    ensures { λ r. ⌜ r ≡ min a b ⌝ }
+// What the first has more than the second; 0 if it has not more.
+fn less(a: u16, b: u16) -> u16
+    ensures { λ r. ⌜ r ≡ a - b ⌝ }
 {
-    let x = a as i16;
-    let y = b as i16;
-    if x < y { a } else { b }
+    if b < a { a - b } else { 0 }
 }
 
 // What turn k of a month of two halves adds. Working powers stand at the part's front, possible ones after them.
 fn added_at(part: &[u8], half: usize, k: usize, summed: u16) -> Added
-    requires { ⌜ (16 * half ≤ length (now part)) × (k < 2 * half) × (summed ≤ 32767) ⌝ }
+    requires { ⌜ (16 * half ≤ length (now part)) × (k < 2 * half) ⌝ }
     ensures { λ r. ⌜ r ≡ turnAdds (now (part .entry)) half summed k ⌝ }
 {
     let near = 2 + 2 * k;
@@ -76,11 +75,11 @@ fn added_at(part: &[u8], half: usize, k: usize, summed: u16) -> Added
     let b = pair(part, column + far);
     let c = pair(part, near);
     let d = pair(part, far);
-    let asked = smaller(summed, turned(a | b));
-    let met = smaller(asked, turned(c | d));
+    let cut = less(summed, turned(a | b));
+    let short = less(summed - cut, turned(c | d));
     Added {
-        asked,
-        met,
+        cut,
+        short,
         near: a | c,
         far: b | d,
     }
@@ -88,7 +87,7 @@ fn added_at(part: &[u8], half: usize, k: usize, summed: u16) -> Added
 
 // The lanes after eight turns more.
 fn with_eight(k: Lanes, part: &[u8], half: usize, q: usize, summed: u16) -> Lanes
-    requires { ⌜ (16 * half ≤ length (now part)) × (8 * q + 8 ≤ 2 * half) × (summed ≤ 32767) × (q < 256) ⌝ }
+    requires { ⌜ (16 * half ≤ length (now part)) × (8 * q + 8 ≤ 2 * half) × (q < 256) ⌝ }
     requires { ⌜ LanesAfter (now part) half summed q k ⌝ }
     ensures { λ r. ⌜ LanesAfter (now (part .entry)) half summed (q + 1) r ⌝ }
 {
@@ -96,10 +95,10 @@ fn with_eight(k: Lanes, part: &[u8], half: usize, q: usize, summed: u16) -> Lane
     let mut i: usize = 0;
     while i < 8 {
         let x = added_at(part, half, 8 * q + i, summed);
-        r.asked[i] = std::num::wrapping_add_u16(r.asked[i], x.asked);
-        r.upper[i] = r.upper[i] + x.asked / 256;
-        r.met[i] = std::num::wrapping_add_u16(r.met[i], x.met);
-        r.over[i] = r.over[i] + x.met / 256;
+        r.cut[i] = std::num::wrapping_add_u16(r.cut[i], x.cut);
+        r.upper[i] = r.upper[i] + x.cut / 256;
+        r.short[i] = std::num::wrapping_add_u16(r.short[i], x.short);
+        r.over[i] = r.over[i] + x.short / 256;
         r.near[i] = r.near[i] | x.near;
         r.far[i] = r.far[i] | x.far;
         i += 1;
@@ -109,14 +108,14 @@ fn with_eight(k: Lanes, part: &[u8], half: usize, q: usize, summed: u16) -> Lane
 
 // The lanes after all turns of a month of so many days.
 fn all_lanes(part: &[u8], days: usize, summed: u16) -> Lanes
-    requires { ⌜ (192 * days ≤ length (now part)) × (days ≤ 31) × (summed ≤ 32767) ⌝ }
+    requires { ⌜ (192 * days ≤ length (now part)) × (days ≤ 31) ⌝ }
     ensures { λ r. ⌜ LanesAfter (now (part .entry)) (12 * days) summed (3 * days) r ⌝ }
 {
     let none: [u16; 8] = [0; 8];
     let mut k = Lanes {
-        asked: none,
+        cut: none,
         upper: none,
-        met: none,
+        short: none,
         over: none,
         near: none,
         far: none,
@@ -150,47 +149,40 @@ fn lanes_sum(left: [u16; 8], upper: [u16; 8]) -> u64
     sum
 }
 
-// No power was read that is not low: no bit in the pairs that are first two bytes, and none in the highest place of the others.
+// No power was read that is not low: no bit in the pairs that are first two bytes.
 fn is_clear(near: [u16; 8], far: [u16; 8]) -> bool
     ensures { λ r. ⌜ (r ≡ true → Clear near far) ⌝ }
 {
     let mut fronts: u16 = 0;
-    let mut others: u16 = 0;
     let mut i: usize = 0;
     while i < 4 {
         fronts = fronts | (near[2 * i + 1] | far[2 * i]);
-        others = others | (near[2 * i] | far[2 * i + 1]);
         i += 1;
     }
-    (fronts == 0) & (others / 128 % 2 == 0)
+    fronts == 0
 }
 
-// k4's sums, and whether they are right because all powers are low.
-pub(crate) struct LowSums {
-    pub(crate) low: bool,
-    pub(crate) sums: K4,
-}
-
-// Of a month of so many days whose first powers are low.
-pub(crate) fn low_sums(part: &[u8], days: usize, summed: u16) -> LowSums
-    requires { ⌜ (192 * days ≤ length (now part)) × (1 ≤ days) × (days ≤ 31) × (summed ≤ 32767) ⌝ }
-    requires { ⌜ (bigEndian 4 (now part) 0 ≤ 32767) × (bigEndian 4 (now part) (96 * days) ≤ 32767) ⌝ }
-    ensures { λ r. ⌜ (r .low ≡ true → LowHours (now (part .entry)) 0 (12 * days) × LowHours (now (part .entry)) (96 * days) (12 * days)
+// k4's sums of a month of so many days whose first powers are low, right where all are.
+pub(crate) fn low_sums(part: &[u8], days: usize, summed: u16) -> TriedSums
+    requires { ⌜ (192 * days ≤ length (now part)) × (1 ≤ days) × (days ≤ 31) × (summed ≤ 65535) ⌝ }
+    requires { ⌜ (bigEndian 4 (now part) 0 ≤ 65535) × (bigEndian 4 (now part) (96 * days) ≤ 65535) ⌝ }
+    ensures { λ r. ⌜ (r .right ≡ true → LowHours (now (part .entry)) 0 (12 * days) × LowHours (now (part .entry)) (96 * days) (12 * days)
         × K4Before (powerIn (now (part .entry)) (series 0 4)) (powerIn (now (part .entry)) (series (96 * days) 4)) summed (24 * days) (r .sums)) ⌝ }
 {
     let k = all_lanes(part, days, summed);
-    let asked = k.asked;
+    let cut = k.cut;
     let upper = k.upper;
-    let met = k.met;
+    let short = k.short;
     let over = k.over;
     let near = k.near;
     let far = k.far;
+    let asked = 24 * (days as u64) * (summed as u64) - lanes_sum(cut, upper);
     let sums = K4 {
-        asked: Tenths(lanes_sum(asked, upper)),
-        met: Tenths(lanes_sum(met, over)),
+        asked: Tenths(asked),
+        met: Tenths(asked - lanes_sum(short, over)),
     };
-    LowSums {
-        low: is_clear(near, far),
+    TriedSums {
+        right: is_clear(near, far),
         sums,
     }
 }

@@ -13,7 +13,7 @@ ghost use Rattle.hours.specs.Series.{powerIn};
 ghost use Rattle.hours.specs.Sums.{K4Before};
 ghost use Rattle.hours.specs.Within.{lowWord, readAt, toldHigh, PowersWithin, WithinBefore};
 use crate::k4::K4;
-use crate::low::LowSums;
+use crate::k4::TriedSums;
 use fields::little_endian;
 use units::Tenths;
 
@@ -117,11 +117,11 @@ fn told_high(under: u32, words: u32) -> bool
 }
 
 // k4's sums of so many hours, right where no power of the part is above the ceiling. They are not called right where a working or a possible power is.
-pub(crate) fn within_sums(part: &[u8], hours: usize, summed: u32) -> LowSums
+pub(crate) fn within_sums(part: &[u8], hours: usize, summed: u32) -> TriedSums
     requires { ⌜ (length (now part) ≡ 12 * hours) × (1 ≤ hours) × (hours ≤ 744) × (summed ≤ 100000) ⌝ }
-    ensures { λ r. ⌜ (r .low ≡ true → PowersWithin (now (part .entry)) (2 * hours)
+    ensures { λ r. ⌜ (r .right ≡ true → PowersWithin (now (part .entry)) (2 * hours)
         × K4Before (powerIn (now (part .entry)) (series 0 4)) (powerIn (now (part .entry)) (series (4 * hours) 4)) summed hours (r .sums)) ⌝ }
-    ensures { λ r. ⌜ (highPowers (now (part .entry)) ≡ false → r .low ≡ true) ⌝ }
+    ensures { λ r. ⌜ (highPowers (now (part .entry)) ≡ false → r .right ≡ true) ⌝ }
 {
     let k = all_within(part, hours, summed);
     let down = 100_001 * (hours as u32);
@@ -129,8 +129,8 @@ pub(crate) fn within_sums(part: &[u8], hours: usize, summed: u32) -> LowSums
         asked: Tenths::stated(std::num::wrapping_add_u32(k.asked, down)),
         met: Tenths::stated(std::num::wrapping_add_u32(k.met, down)),
     };
-    LowSums {
-        low: (part[0] == 0) & !told_high(k.under, k.words),
+    TriedSums {
+        right: (part[0] == 0) & !told_high(k.under, k.words),
         sums,
     }
 }

@@ -44,14 +44,17 @@ pair-requires-4 c κs = search needs
 turned-requires : tie.Need-turned-requires
 turned-requires c κs = search needs
 
-smaller-requires : tie.Need-smaller-requires
-smaller-requires c κs = search needs
+less-requires : tie.Need-less-requires
+less-requires c κs = search needs
+
+sub-less : tie.Need-sub-less
+sub-less c = search needs
 
 turned-requires-2 : tie.Need-turned-requires-2
 turned-requires-2 c κs = search needs
 
-smaller-requires-2 : tie.Need-smaller-requires-2
-smaller-requires-2 c κs = search needs
+less-requires-2 : tie.Need-less-requires-2
+less-requires-2 c κs = search needs
 
 returns : tie.Need-returns
 returns c =
@@ -59,9 +62,9 @@ returns c =
     let near : 0 + (2 + 2 * a .k) ≡ 2 + 2 * a .k = omega arith in
     let far : 0 + (4 * a .half + 2 * a .k) ≡ 4 * a .half + 2 * a .k = omega arith in
     rw (
-      c .smaller2 .ensures,
+      c .less2 .ensures,
       c .before .turned2 .ensures .0,
-      c .before .before .smaller .ensures,
+      c .before .before .less .ensures,
       c .before .before .before .turned .ensures .0,
       c .before .before .before .before .pair4 .ensures .0,
       c .before .before .before .before .before .pair3 .ensures .0,
@@ -88,7 +91,8 @@ added-at-spec =
     pair-requires-3
     pair-requires-4
     turned-requires
-    smaller-requires
+    less-requires
+    sub-less
     turned-requires-2
-    smaller-requires-2
+    less-requires-2
     returns)

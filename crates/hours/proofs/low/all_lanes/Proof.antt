@@ -24,7 +24,7 @@ mul-with-eight c = search needs
 with-eight-requires : tie.Need-with-eight-requires Inv-loop μ-loop
 with-eight-requires c κs =
     let p = c .before .before .before .pre in
-    ((omega (arith, p .0), omega arith, p .2, omega (arith, p .1)), c .before .loop .inv .0)
+    ((omega (arith, p .0), omega arith, omega (arith, p .1)), c .before .loop .inv .0)
 
 add-q : tie.Need-add-q Inv-loop μ-loop
 add-q c = omega arith

@@ -1,9 +1,9 @@
 use native.Mathlib.Omega.{arith}
-use mathlib.Core.Path.{_≡_, sym, ap, _∙_}
-use Prim.Native.Nat.{ℕ, _+_, _-_, _≤_, _<_, zero-le}
+use mathlib.Core.Path.{ap, _∙_}
+use Prim.Native.Nat.{_-_, _≤_, zero-le}
 use Rattle.hours.specs.declared.low.Added.{Added}
-use Rattle.hours.specs.Low.{turnAsked, turnMet, turnNear, turnFar, leftIn, upperIn, bitsIn, LanesBy}
-use Rattle.hours.proofs.Lanes.{upTo, lane-held, left-more, upper-more, bits-more, lane-more, few-asked, few-met, lanes-started, lanes-done, upper-room}
+use Rattle.hours.specs.Low.{turnCut, turnShort, turnNear, turnFar, leftIn, upperIn, bitsIn, LanesBy}
+use Rattle.hours.proofs.Lanes.{upTo, lane-held, left-more, upper-more, bits-more, lane-more, few-cut, few-short, lanes-started, lanes-done, upper-room}
 use borrow.Author.Needs.{needs}
 use Rattle.hours.proofs.low.with_eight.Statement.{statement}
 use Rattle.hours.proofs.low.with_eight.Tie as tie
@@ -24,7 +24,7 @@ add-added-at : tie.Need-add-added-at Inv-loop μ-loop
 add-added-at c = record { fits = omega (arith, c .before .before .before .pre .0) }
 
 added-at-requires : tie.Need-added-at-requires Inv-loop μ-loop
-added-at-requires c κs = let p = c .before .before .before .pre .0 in (p .0, omega (arith, p .1), p .2)
+added-at-requires c κs = let p = c .before .before .before .pre .0 in (p .0, omega (arith, p .1))
 
 mul-wrapping-add-u16 : tie.Need-mul-wrapping-add-u16 Inv-loop μ-loop
 mul-wrapping-add-u16 c = omega arith
@@ -50,7 +50,7 @@ element-copy-out-r c = omega arith
 add-r : tie.Need-add-r Inv-loop μ-loop
 add-r c =
     let s = c .before .before .before .before .before .before .before .before in
-    record { fits = omega (arith, upper-room (turnAsked (s .args .part .now) (s .args .half) (s .args .summed)) (few-asked (s .args .part .now) (s .args .half) (s .args .summed) (s .args .q) (s .pre .0 .2)) (s .args .q) _ (s .pre .0 .3) (omega arith) (c .before .before .before .before .before .before .loop .inv .0 .upper-are) (ap (λ (x : Added). x .asked) (c .before .before .before .before .added-at .ensures))) }
+    record { fits = omega (arith, upper-room (turnCut (s .args .part .now) (s .args .half) (s .args .summed)) (few-cut (s .args .part .now) (s .args .half) (s .args .summed) (s .args .q) (omega arith)) (s .args .q) _ (s .pre .0 .2) (omega arith) (c .before .before .before .before .before .before .loop .inv .0 .upper-are) (ap (λ (x : Added). x .cut) (c .before .before .before .before .added-at .ensures))) }
 
 mul-r-3 : tie.Need-mul-r-3 Inv-loop μ-loop
 mul-r-3 c = omega arith
@@ -82,7 +82,7 @@ element-copy-out-r-2 c = omega arith
 add-r-2 : tie.Need-add-r-2 Inv-loop μ-loop
 add-r-2 c =
     let s = c .before .before .before .before .before .before .before .before .before .before .before .before in
-    record { fits = omega (arith, upper-room (turnMet (s .args .part .now) (s .args .half) (s .args .summed)) (few-met (s .args .part .now) (s .args .half) (s .args .summed) (s .args .q) (s .pre .0 .2)) (s .args .q) _ (s .pre .0 .3) (omega arith) (c .before .before .before .before .before .before .before .before .before .before .loop .inv .0 .over-are) (ap (λ (x : Added). x .met) (c .before .before .before .before .before .before .before .before .added-at .ensures))) }
+    record { fits = omega (arith, upper-room (turnShort (s .args .part .now) (s .args .half) (s .args .summed)) (few-short (s .args .part .now) (s .args .half) (s .args .summed) (s .args .q) (omega arith)) (s .args .q) _ (s .pre .0 .2) (omega arith) (c .before .before .before .before .before .before .before .before .before .before .loop .inv .0 .over-are) (ap (λ (x : Added). x .short) (c .before .before .before .before .before .before .before .before .added-at .ensures))) }
 
 mul-r-6 : tie.Need-mul-r-6 Inv-loop μ-loop
 mul-r-6 c = omega arith
@@ -127,20 +127,20 @@ loop-again c =
     let k = l .inv .0 in
     let i = c .before .before .before .before .before .before .before .before .before .before .before .before .before .loop-test .taken in
     let x = c .before .before .before .before .before .before .before .before .before .before .before .before .added-at .ensures in
-    let asked = ap (λ (y : Added). y .asked) x in
-    let met = ap (λ (y : Added). y .met) x in
+    let cut = ap (λ (y : Added). y .cut) x in
+    let short = ap (λ (y : Added). y .short) x in
     let near = ap (λ (y : Added). y .near) x in
     let far = ap (λ (y : Added). y .far) x in
-    let f = turnAsked (s .args .part .now) (s .args .half) (s .args .summed) in
-    let g = turnMet (s .args .part .now) (s .args .half) (s .args .summed) in
+    let f = turnCut (s .args .part .now) (s .args .half) (s .args .summed) in
+    let g = turnShort (s .args .part .now) (s .args .half) (s .args .summed) in
     let u = turnNear (s .args .part .now) (s .args .half) in
     let v = turnFar (s .args .part .now) (s .args .half) in
     let q = s .args .q in (
       record {
-        asked-are = lane-more (leftIn f) q (l .i) i (c .before .before .before .before .before .before .before .before .before .before .wrapping-add-u16 .ensures ∙ left-more f (l .i) q (lane-held (leftIn f) q (l .i) i (k .asked-are)) asked) (k .asked-are);
-        upper-are = lane-more (upperIn f) q (l .i) i (upper-more f (l .i) q (lane-held (upperIn f) q (l .i) i (k .upper-are)) asked) (k .upper-are);
-        met-are = lane-more (leftIn g) q (l .i) i (c .before .before .before .before .before .before .wrapping-add-u162 .ensures ∙ left-more g (l .i) q (lane-held (leftIn g) q (l .i) i (k .met-are)) met) (k .met-are);
-        over-are = lane-more (upperIn g) q (l .i) i (upper-more g (l .i) q (lane-held (upperIn g) q (l .i) i (k .over-are)) met) (k .over-are);
+        cut-are = lane-more (leftIn f) q (l .i) i (c .before .before .before .before .before .before .before .before .before .before .wrapping-add-u16 .ensures ∙ left-more f (l .i) q (lane-held (leftIn f) q (l .i) i (k .cut-are)) cut) (k .cut-are);
+        upper-are = lane-more (upperIn f) q (l .i) i (upper-more f (l .i) q (lane-held (upperIn f) q (l .i) i (k .upper-are)) cut) (k .upper-are);
+        short-are = lane-more (leftIn g) q (l .i) i (c .before .before .before .before .before .before .wrapping-add-u162 .ensures ∙ left-more g (l .i) q (lane-held (leftIn g) q (l .i) i (k .short-are)) short) (k .short-are);
+        over-are = lane-more (upperIn g) q (l .i) i (upper-more g (l .i) q (lane-held (upperIn g) q (l .i) i (k .over-are)) short) (k .over-are);
         near-are = lane-more (bitsIn u) q (l .i) i (bits-more u (l .i) q (lane-held (bitsIn u) q (l .i) i (k .near-are)) near) (k .near-are);
         far-are = lane-more (bitsIn v) q (l .i) i (bits-more v (l .i) q (lane-held (bitsIn v) q (l .i) i (k .far-are)) far) (k .far-are);
       },
