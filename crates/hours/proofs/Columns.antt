@@ -1,12 +1,12 @@
 -- A part that is a month of columns. Assumes nothing.
 use mathlib.Core.Path.{_≡_, refl, sym, ap, _∙_}
-use mathlib.Core.Bool.{true, false, _&&_, or-false}
+use mathlib.Core.Bool.{Bool, true, false, _&&_}
 use mathlib.Core.List.{List}
-use Prim.Native.Nat.{ℕ, _+_, _-_, _*_, _/_, _≤_, _<_}
+use Prim.Native.Nat.{ℕ, _+_, _-_, _*_, _/_, _≤_, _<_, zero-le, min}
 use native.Mathlib.Omega.{arith}
-use lib.Dec.{eqb, leb}
+use lib.Dec.{eqb, leb, ltb}
 use lib.ListN.{length, take, drop}
-use borrow.Author.Tests.{eqb-true, leb-true, le-ltb, le-leb}
+use borrow.Author.Tests.{eqb-true, leb-true, ltb-true, ltb-false, le-ltb, le-leb}
 use Rattle.rules.specs.declared.Series.{Series}
 use Rattle.rules.specs.declared.HourSeries.{HourSeries}
 use Rattle.rules.specs.Fields.{bigEndian}
@@ -17,12 +17,17 @@ use Rattle.laws.specs.Bounds.{mostWord}
 use Rattle.laws.proofs.Range.{both, any-none}
 use Rattle.refusals_powers.specs.Powers.{highPower, highFrom, highPowers}
 use Rattle.refusals_powers.proofs.Powers.{powers-more, part-high}
+use Rattle.units.specs.Sums.{tenths}
 use Rattle.hours.specs.declared.k4.K4.{K4}
 use Rattle.hours.specs.Series.{stands, powerIn}
 use Rattle.hours.specs.Sums.{K4Before, k4In}
 use Rattle.hours.specs.Low.{LowHours}
-use Rattle.hours.specs.Figures.{isColumn, inColumns}
+use Rattle.hours.specs.Figures.{isColumn, inColumns, sumsBelow}
+use Rattle.hours.specs.Within.{PowersWithin}
 use Rattle.hours.proofs.Standing.{apart}
+use Rattle.hours.proofs.Turns.{k4-for}
+use Rattle.hours.proofs.WithinCeiling.{k4-held}
+use Rattle.hours.proofs.WithinMonth.{none-above}
 
 column-is : (x : Series) (start : ℕ) → isColumn x start ≡ true → x ≡ series start 4
 unfolding isColumn
@@ -56,36 +61,62 @@ columns-are bytes of days e =
       few-days = leb-true _ _ (five .1);
     }
 
-module _ (part : List ℕ) (of : HourSeries) (days : ℕ) (columns : Columns (length part) of days) where
-  -- Number 9, where two columns are low and the third was tried.
-  module _ (working : LowHours part 0 (12 * days)) (possible : LowHours part (96 * days) (12 * days)) where
-    low-high : (x : ℕ) → x ≤ 65535 → tooHigh x ≡ false
-    unfolding tooHigh
-    low-high x l = le-ltb 100000 x (omega arith)
+-- Number 9 of a month of columns, where the third was tried by itself.
+module _ (part : List ℕ) (days : ℕ) where
+  -- Low powers are within the ceiling.
+  pub low-within : LowHours part 0 (12 * days) → LowHours part (96 * days) (12 * days) → PowersWithin part (48 * days)
+  low-within working possible j l = go (ltb j (24 * days)) refl
+    where
+      go : (b : Bool) → ltb j (24 * days) ≡ b → bigEndian 4 part (4 * j) ≤ 100000
+      go true e =
+          let name : 0 + 4 * j ≡ 4 * j = omega arith in
+          let low = ltb-true j (24 * days) e in
+          omega (arith, rw name at (working .low j (omega (arith, low))))
+      go false e =
+          let past = ltb-false j (24 * days) e in
+          let name : 96 * days + 4 * (j - 24 * days) ≡ 4 * j = omega (arith, past) in
+          omega (arith, rw name at (possible .low (j - 24 * days) (omega (arith, past))))
 
-    first : any (highPower part) (24 * days) ≡ false
-    first =
-        any-none _ (24 * days) (λ i l.
-        let name : 0 + 4 * i ≡ 4 * i = omega arith in
-        low-high (bigEndian 4 part (4 * i)) (rw (← name) (working .low i (omega arith))))
+  -- S held to the ceiling serves powers within it.
+  pub held : (S least : ℕ) {k : K4} → least ≡ min S 100000 → PowersWithin part (2 * (24 * days))
+      → K4Before (powerIn part (series 0 4)) (powerIn part (series (4 * (24 * days)) 4)) least (24 * days) k
+      → PowersWithin part (48 * days) × K4Before (powerIn part (series 0 4)) (powerIn part (series (96 * days) 4)) S (24 * days) k
+  held S least e within before =
+      let column : 4 * (24 * days) ≡ 96 * days = omega arith in
+      let possible : (i : ℕ) → i < 24 * days → powerIn part (series (4 * (24 * days)) 4) i ≤ 100000
+      = λ i l. let name : 4 * (24 * days) + 4 * i ≡ 4 * (24 * days + i) = omega arith in rw name (within (24 * days + i) (omega arith)) in
+      (λ j l. within j (omega arith), rw column at (k4-held _ _ S 100000 (24 * days) possible (k4-for _ _ _ e before)))
 
-    second : highFrom part (96 * days) (24 * days) ≡ false
-    second = any-none _ (24 * days) (λ i l. low-high (bigEndian 4 part (96 * days + 4 * i)) (possible .low i (omega arith)))
+  module _ (all : length part ≡ 3 * (96 * days)) {rest : List ℕ} (lent : rest ≡ take (length part - 192 * days) (drop (192 * days) part)) where
+    third : highPowers rest ≡ highFrom part (192 * days) (24 * days)
+    third = ap highPowers lent ∙ part-high part (192 * days) (length part - 192 * days) (24 * days) (omega (arith, all)) (omega (arith, all))
 
-    pub none-high : {rest : List ℕ} → rest ≡ take (length part - 2 * (96 * days)) (drop (2 * (96 * days)) part) → highPowers rest ≡ false → highPowers part ≡ false
-    unfolding highPowers
-    none-high lent none =
-        let all = columns .all-bytes in
-        let third : highFrom part (2 * (96 * days)) (24 * days) ≡ false
-        = sym (part-high part (2 * (96 * days)) (length part - 2 * (96 * days)) (24 * days) (omega (arith, all)) (omega (arith, all))) ∙ ap highPowers (sym lent) ∙ none in
-        let two : any (highPower part) (48 * days) ≡ false
-        = sym (powers-more part (24 * days) (24 * days) (96 * days) (48 * days) (omega arith) (omega arith) (sym first) (sym second)) in
-        sym (powers-more part (48 * days) (24 * days) (2 * (96 * days)) (length part / 4) (omega arith) (omega (arith, all)) (sym two) (sym third))
+    pub none-high : PowersWithin part (48 * days) → highPowers rest ≡ false → highPowers part ≡ false
+    unfolding highPowers tooHigh
+    none-high within none =
+        let two : any (highPower part) (48 * days) ≡ false = any-none _ (48 * days) (λ j l. le-ltb 100000 _ (within j l)) in
+        sym (powers-more part (48 * days) (24 * days) (192 * days) (length part / 4) (omega arith) (omega (arith, all)) (sym two) (sym (sym third ∙ none)))
 
-  -- k4's sums of the columns are those of the part.
-  pub columns-sums : (S : ℕ) {k : K4} → K4Before (powerIn part (series 0 4)) (powerIn part (series (96 * days) 4)) S (24 * days) k
+    pub third-none : highPowers part ≡ false → highPowers rest ≡ false
+    unfolding highPowers tooHigh
+    third-none none =
+        third
+        ∙ any-none _ (24 * days) (λ i l.
+        let name : 192 * days + 4 * i ≡ 4 * (48 * days + i) = omega arith in
+        le-ltb 100000 (bigEndian 4 part (192 * days + 4 * i)) (rw name (none-above part (24 * days) (omega (arith, all)) none (48 * days + i) (omega arith))))
+
+-- k4's sums of the columns are those of the part.
+module _ (part : List ℕ) (of : HourSeries) (days : ℕ) (columns : Columns (length part) of days) (S : ℕ) where
+  columns-sums : {k : K4} → K4Before (powerIn part (series 0 4)) (powerIn part (series (96 * days) 4)) S (24 * days) k
       → (k ≡ k4In part (of .working) (of .possible) days S) × (k .asked .0 ≤ mostWord * (24 * days)) × (k .met .0 ≤ mostWord * (24 * days))
   unfolding k4In stands
-  columns-sums S k =
+  columns-sums k =
       let all = columns .all-bytes in
       (rw (columns .working-is, columns .possible-is, le-leb (0 + 4 * (24 * days) + 4) (length part + 4) (omega (arith, all)), le-leb (96 * days + 4 * (24 * days) + 4) (length part + 4) (omega (arith, all)), k .0, k .1), k .2, k .3)
+
+  pub columns-below : (high : Bool) {k : K4} → high ≡ highPowers part → (high ≡ true → k ≡ record { asked = tenths 0; met = tenths 0 })
+      → (high ≡ false → K4Before (powerIn part (series 0 4)) (powerIn part (series (96 * days) 4)) S (24 * days) k)
+      → (k ≡ sumsBelow part of days S) × (k .asked .0 ≤ mostWord * (24 * days)) × (k .met .0 ≤ mostWord * (24 * days))
+  unfolding sumsBelow
+  columns-below true e none sums = let n = none refl in rw (sym e, n) (refl, zero-le, zero-le)
+  columns-below false e none sums = rw (sym e) (columns-sums (sums refl))

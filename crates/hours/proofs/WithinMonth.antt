@@ -94,8 +94,12 @@ module _ (part : List ℕ) (hours S : ℕ) where
         told-joined (p .under) (w .under) (p .word) (w .word) (omega (arith, p-fits)) (omega (arith, w-fits))
         ∙ ap₂ (λ (x y : Read). toldHigh (x .under) (x .word) || toldHigh (y .under) (y .word)) (p-is ∙ ap (readAt part) name) w-is
 
-    pub within-more : WithinBefore part hours S (i + 1) (record { asked = asked; met = all-met;
-        under = bitAnd (k .under) (bitAnd (p .under) (w .under)); words = bitOr (k .words) (bitOr (p .word) (w .word)) })
+    pub within-more : WithinBefore part hours S (i + 1) (record {
+      asked = asked;
+      met = all-met;
+      under = bitAnd (k .under) (bitAnd (p .under) (w .under));
+      words = bitOr (k .words) (bitOr (p .word) (w .word));
+    })
     within-more =
         record {
           told =

@@ -97,7 +97,7 @@ fn column_sums(part: &[u8], days: u8, summed: Tenths) -> MonthSums
     ensures { λ r. ⌜ r .high ≡ highPowers (now (part .entry)) ⌝ }
     ensures { λ r. ⌜ (r .high ≡ true → r .sums ≡ record { asked = tenths 0; met = tenths 0 })
         × (r .high ≡ false
-          → K4Before (powerIn (now (part .entry)) (series 0 4)) (powerIn (now (part .entry)) (series (96 * days) 4)) (summed .0) (24 * days) (r .sums)) ⌝ }
+        → K4Before (powerIn (now (part .entry)) (series 0 4)) (powerIn (now (part .entry)) (series (96 * days) 4)) (summed .0) (24 * days) (r .sums)) ⌝ }
 {
     let tried = tried_sums(part, days, summed);
     let outside = 192 * (days as usize);

@@ -63,34 +63,25 @@ returns c =
     let none = not-true (c .before .before .stands .result && c .before .stands2 .result) (c .if1 .taken) in
     (rw (sym (c .before .before .stands .ensures), sym (c .before .stands2 .ensures), none), (zero-le, zero-le))
 
-within-column-requires : tie.Need-within-column-requires
-within-column-requires c κs =
-    let s = c .before .before .before .before .before .before .before in
-    let a = s .args in
-    (stand-apart (a .part .now) (a .working) (a .possible) (a .days) 0 (standing (c .before .before .before)) 4 (c .if2 .taken), s .pre)
-
-returns-2 : tie.Need-returns-2
-returns-2 c = all-apart _ _ _ _ _ (standing (c .before .before .before .before)) 4 (c .before .if2 .taken) (c .within-column .ensures)
-
 by-hour-requires : tie.Need-by-hour-requires
 by-hour-requires c κs =
-    let a = c .before .before .before .before .before .before .before .before .before .before .args in
-    stand-apart (a .part .now) (a .working) (a .possible) (a .days) 0 (standing (c .before .before .before .before .before .before)) 12 (c .if3 .taken)
+    let a = c .before .before .before .before .before .before .before .args in
+    stand-apart (a .part .now) (a .working) (a .possible) (a .days) 0 (standing (c .before .before .before)) 12 (c .if2 .taken)
 
-returns-3 : tie.Need-returns-3
-returns-3 c = all-apart _ _ _ _ _ (standing (c .before .before .before .before .before .before .before)) 12 (c .before .if3 .taken) (c .by-hour .ensures)
+returns-2 : tie.Need-returns-2
+returns-2 c = all-apart _ _ _ _ _ (standing (c .before .before .before .before)) 12 (c .before .if2 .taken) (c .by-hour .ensures)
 
 mul-through-hours : tie.Need-mul-through-hours
 mul-through-hours c = search needs
 
 through-hours-requires : tie.Need-through-hours-requires
 through-hours-requires c κs =
-    let a = c .before .before .before .before .before .before .before .before .before .before .args in
-    let two = stand (a .part .now) (a .working) (a .possible) (a .days) 0 (standing (c .before .before .before .before .before .before)) in
+    let a = c .before .before .before .before .before .before .before .args in
+    let two = stand (a .part .now) (a .working) (a .possible) (a .days) 0 (standing (c .before .before .before)) in
     ((omega (arith, two .0), omega (arith, two .1), omega arith), none-summed _ _ _)
 
-returns-4 : tie.Need-returns-4
-returns-4 c = all-hours _ _ _ _ _ (standing (c .before .before .before .before .before .before .before)) (k4-same _ _ _ (omega arith) (c .through-hours .ensures))
+returns-3 : tie.Need-returns-3
+returns-3 c = all-hours _ _ _ _ _ (standing (c .before .before .before .before)) (k4-same _ _ _ (omega arith) (c .through-hours .ensures))
 
 pub k4-sums-spec : {M : Type 1} → statement M
 k4-sums-spec =
@@ -100,10 +91,8 @@ k4-sums-spec =
     stands-requires
     stands-requires-2
     returns
-    within-column-requires
-    returns-2
     by-hour-requires
-    returns-3
+    returns-2
     mul-through-hours
     through-hours-requires
-    returns-4)
+    returns-3)
