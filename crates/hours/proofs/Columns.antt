@@ -1,6 +1,6 @@
 -- A part that is a month of columns. Assumes nothing.
 use mathlib.Core.Path.{_≡_, refl, sym, ap, _∙_}
-use mathlib.Core.Bool.{Bool, true, false, _&&_}
+use mathlib.Core.Bool.{Bool, true, false}
 use mathlib.Core.List.{List}
 use Prim.Native.Nat.{ℕ, _+_, _-_, _*_, _/_, _≤_, _<_, zero-le, min}
 use native.Mathlib.Omega.{arith}
@@ -16,18 +16,17 @@ use Rattle.rules.specs.Sheet.{series}
 use Rattle.laws.specs.Bounds.{mostWord}
 use Rattle.laws.proofs.Range.{both, any-none}
 use Rattle.refusals_powers.specs.Powers.{highPower, highFrom, highPowers}
-use Rattle.refusals_powers.proofs.Powers.{powers-more, part-high}
+use Rattle.refusals_powers.proofs.Powers.{powers-more, part-high, each-within}
 use Rattle.units.specs.Sums.{tenths}
 use Rattle.hours.specs.declared.k4.K4.{K4}
 use Rattle.hours.specs.Series.{stands, powerIn}
-use Rattle.hours.specs.Sums.{K4Before, k4In}
+use Rattle.hours.specs.Sums.{K4Before, ColumnsSummed, k4In}
 use Rattle.hours.specs.Low.{LowHours}
 use Rattle.hours.specs.Figures.{isColumn, inColumns, sumsBelow}
 use Rattle.hours.specs.Within.{PowersWithin}
 use Rattle.hours.proofs.Standing.{apart}
 use Rattle.hours.proofs.Turns.{k4-for}
 use Rattle.hours.proofs.WithinCeiling.{k4-held}
-use Rattle.hours.proofs.WithinMonth.{none-above}
 
 column-is : (x : Series) (start : ℕ) → isColumn x start ≡ true → x ≡ series start 4
 unfolding isColumn
@@ -80,7 +79,7 @@ module _ (part : List ℕ) (days : ℕ) where
   -- S held to the ceiling serves powers within it.
   pub held : (S least : ℕ) {k : K4} → least ≡ min S 100000 → PowersWithin part (2 * (24 * days))
       → K4Before (powerIn part (series 0 4)) (powerIn part (series (4 * (24 * days)) 4)) least (24 * days) k
-      → PowersWithin part (48 * days) × K4Before (powerIn part (series 0 4)) (powerIn part (series (96 * days) 4)) S (24 * days) k
+      → PowersWithin part (48 * days) × ColumnsSummed part days S k
   held S least e within before =
       let column : 4 * (24 * days) ≡ 96 * days = omega arith in
       let possible : (i : ℕ) → i < 24 * days → powerIn part (series (4 * (24 * days)) 4) i ≤ 100000
@@ -103,11 +102,11 @@ module _ (part : List ℕ) (days : ℕ) where
         third
         ∙ any-none _ (24 * days) (λ i l.
         let name : 192 * days + 4 * i ≡ 4 * (48 * days + i) = omega arith in
-        le-ltb 100000 (bigEndian 4 part (192 * days + 4 * i)) (rw name (none-above part (24 * days) (omega (arith, all)) none (48 * days + i) (omega arith))))
+        le-ltb 100000 (bigEndian 4 part (192 * days + 4 * i)) (rw name (each-within part none (48 * days + i) (omega (arith, all)))))
 
 -- k4's sums of the columns are those of the part.
 module _ (part : List ℕ) (of : HourSeries) (days : ℕ) (columns : Columns (length part) of days) (S : ℕ) where
-  columns-sums : {k : K4} → K4Before (powerIn part (series 0 4)) (powerIn part (series (96 * days) 4)) S (24 * days) k
+  columns-sums : {k : K4} → ColumnsSummed part days S k
       → (k ≡ k4In part (of .working) (of .possible) days S) × (k .asked .0 ≤ mostWord * (24 * days)) × (k .met .0 ≤ mostWord * (24 * days))
   unfolding k4In stands
   columns-sums k =
@@ -115,7 +114,7 @@ module _ (part : List ℕ) (of : HourSeries) (days : ℕ) (columns : Columns (le
       (rw (columns .working-is, columns .possible-is, le-leb (0 + 4 * (24 * days) + 4) (length part + 4) (omega (arith, all)), le-leb (96 * days + 4 * (24 * days) + 4) (length part + 4) (omega (arith, all)), k .0, k .1), k .2, k .3)
 
   pub columns-below : (high : Bool) {k : K4} → high ≡ highPowers part → (high ≡ true → k ≡ record { asked = tenths 0; met = tenths 0 })
-      → (high ≡ false → K4Before (powerIn part (series 0 4)) (powerIn part (series (96 * days) 4)) S (24 * days) k)
+      → (high ≡ false → ColumnsSummed part days S k)
       → (k ≡ sumsBelow part of days S) × (k .asked .0 ≤ mostWord * (24 * days)) × (k .met .0 ≤ mostWord * (24 * days))
   unfolding sumsBelow
   columns-below true e none sums = let n = none refl in rw (sym e, n) (refl, zero-le, zero-le)

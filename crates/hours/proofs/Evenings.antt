@@ -1,25 +1,19 @@
 -- Powers of control hours added two by two in one word. Assumes nothing.
-use mathlib.Core.Path.{_≡_, refl, sym, ap, _∙_}
+use mathlib.Core.Path.{_≡_, refl, _∙_}
 use mathlib.Core.Bool.{true, false}
 use mathlib.Core.List.{List}
 use Prim.Native.Nat.{ℕ, _+_, _*_, _/_, _%_, _≤_, _<_, zero-le}
-use native.Mathlib.Nat.{add-zero}
 use native.Mathlib.Omega.{arith}
 use lib.Bits.{bitOr, or-shifted}
-use lib.ListN.{length}
-use borrow.Author.Tests.{ltb-false}
-use Rattle.rules.specs.Fields.{bigEndian}
 use Rattle.rules.specs.Range.{sum}
-use Rattle.rules.specs.Refusals.{tooHigh}
 use Rattle.rules.specs.Sheet.{series}
-use Rattle.laws.proofs.Range.{any-clear}
 use Rattle.laws.proofs.ControlHours.{evening}
 use Rattle.calendar.specs.Days.{dayOn}
 use Rattle.refusals_powers.specs.Powers.{highPowers}
+use Rattle.refusals_powers.proofs.Powers.{each-within}
 use Rattle.hours.specs.Series.{Stands, powerIn}
 use Rattle.hours.specs.Control.{Twos}
 use Rattle.hours.proofs.Turns.{SoFar, none-yet, control-more, other-more}
-use Rattle.laws.specs.Bounds.{mostWord}
 
 pub two-read : (a b : ℕ) → a ≤ 100000 → b ≤ 100000 → Twos (a + b) 100000 (bitOr (a * 4294967296) b)
 two-read a b p q =
@@ -104,10 +98,6 @@ few-hours a b c = omega arith
 -- A column in a part without a power above the ceiling.
 pub none-high : (part : List ℕ) (start n : ℕ) → highPowers part ≡ false → start % 4 ≡ 0 → Stands part (series start 4) n → (i : ℕ) → i < n
     → powerIn part (series start 4) i ≤ 100000
-unfolding highPowers tooHigh
 none-high part start n none there stands i l =
     let name : 4 * (start / 4 + i) ≡ start + 4 * i = omega arith in
-    rw (← name) (below-ceiling (start / 4 + i) (any-clear _ (length part / 4) none (start / 4 + i) (omega (arith, stands))))
-  where
-    below-ceiling : (j : ℕ) → tooHigh (bigEndian 4 part (4 * j)) ≡ false → bigEndian 4 part (4 * j) ≤ 100000
-    below-ceiling j e = ltb-false 100000 (bigEndian 4 part (4 * j)) e
+    rw (← name) (each-within part none (start / 4 + i) (omega (arith, stands)))

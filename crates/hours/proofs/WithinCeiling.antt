@@ -1,24 +1,20 @@
 -- Powers within the ceiling: what is read of them, and k4's sums over them. Assumes nothing.
-use mathlib.Core.Path.{_≡_, refl, sym, ap, ap₂, _∙_}
+use mathlib.Core.Path.{_≡_, refl, ap, ap₂, _∙_}
 use mathlib.Core.Bool.{Bool, true, false, _||_}
 use mathlib.Core.List.{List}
 use Prim.Native.Nat.{ℕ, zero, suc, _+_, _*_, _/_, _%_, _≤_, _<_, min}
 use native.Mathlib.Omega.{arith}
 use lib.Bits.{bitAnd, bitOr, and-le-l, and-le-r, and-shr}
 use lib.Dec.{ltb}
-use lib.ListN.{length, getD}
+use lib.ListN.{getD}
 use borrow.Author.Tests.{ltb-true, ltb-false, lt-ltb, le-ltb}
 use Rattle.rules.specs.Fields.{bigEndian}
-use Rattle.rules.specs.Range.{any, sum}
-use Rattle.rules.specs.Refusals.{tooHigh}
-use Rattle.rules.specs.Sheet.{series}
-use Rattle.laws.proofs.Range.{sum-more, sum-none, sum-same, sum-le, or-left, or-right, any-clear, any-none}
-use Rattle.refusals_powers.specs.Powers.{highPowers}
+use Rattle.rules.specs.Range.{sum}
+use Rattle.laws.proofs.Range.{sum-more, sum-same, sum-le, or-left, or-right}
 use Rattle.refusals_powers.proofs.Told.{inner-some, or-three}
 use Rattle.hours.specs.declared.k4.K4.{K4}
-use Rattle.hours.specs.Series.{powerIn}
-use Rattle.hours.specs.Sums.{askedOf, metOf, K4Before}
-use Rattle.hours.specs.Within.{PowersWithin, lowWord, counted, readAt, toldHigh, highRead, highHour, countedSum}
+use Rattle.hours.specs.Sums.{askedOf, K4Before}
+use Rattle.hours.specs.Within.{PowersWithin, lowWord, counted, readAt, toldHigh, highRead, countedSum}
 use Rattle.hours.proofs.LowPowers.{four-bytes, Bytes}
 
 -- Two numbers of 32 bits have the highest bit together where both have it.

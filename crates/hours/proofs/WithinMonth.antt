@@ -1,27 +1,23 @@
 -- A month whose readings tell of no power above the ceiling, and the sums over it. Assumes nothing.
 use mathlib.Core.Path.{_≡_, refl, sym, ap, ap₂, _∙_}
-use mathlib.Core.Bool.{Bool, true, false, _||_, _&&_, not}
+use mathlib.Core.Bool.{Bool, true, false, _||_}
 use mathlib.Core.List.{List}
-use Prim.Native.Nat.{ℕ, _+_, _-_, _*_, _/_, _%_, _≤_, _<_, min}
+use Prim.Native.Nat.{ℕ, _+_, _-_, _*_, _%_, _≤_, _<_, min}
 use native.Mathlib.Omega.{arith}
 use lib.Bits.{bitAnd, bitOr, and-le-l}
-use lib.Dec.{eqb, ltb}
-use lib.ListN.{length, getD}
-use borrow.Author.Tests.{eqb-true, eq-eqb, ltb-true, ltb-false, not-false, not-true}
+use lib.Dec.{ltb}
+use lib.ListN.{getD}
+use borrow.Author.Tests.{ltb-true, ltb-false}
 use Rattle.rules.specs.Fields.{bigEndian}
-use Rattle.rules.specs.Range.{any, sum}
-use Rattle.rules.specs.Refusals.{tooHigh}
 use Rattle.rules.specs.Sheet.{series}
-use Rattle.laws.proofs.Range.{sum-none, sum-le, both, or-left, or-right, any-start, any-fold, any-clear, any-none}
+use Rattle.laws.proofs.Range.{sum-none, sum-le, or-left, or-right, any-start, any-fold, any-clear, any-none}
 use Rattle.units.specs.Sums.{tenths}
-use Rattle.refusals_powers.specs.Powers.{highPower, highPowers}
-use Rattle.hours.specs.declared.k4.K4.{K4}
 use Rattle.hours.specs.declared.within.Read.{Read}
 use Rattle.hours.specs.declared.within.Within.{Within}
 use Rattle.hours.specs.Series.{powerIn}
 use Rattle.hours.specs.Sums.{askedOf, metOf, K4Before}
-use Rattle.hours.specs.Within.{PowersWithin, counted, readAt, toldHigh, highRead, highHour, countedSum, WithinBefore}
-use Rattle.hours.proofs.LowPowers.{four-bytes, Bytes}
+use Rattle.hours.specs.Within.{PowersWithin, counted, readAt, toldHigh, highRead, highHour, WithinBefore}
+use Rattle.hours.proofs.LowPowers.{Bytes}
 use Rattle.hours.proofs.WithinCeiling.{told-joined, nothing-told, all-within, none-read, counted-more, counted-all}
 
 -- A power within the ceiling as it is counted, and the smaller of two.
@@ -141,8 +137,3 @@ module _ (part : List ℕ) (hours S : ℕ) where
         let asked = counted-all (askedOf possible S) hours short (λ i l. omega arith) (all .asked-is to-all) in
         let met = counted-all (metOf working possible S) hours short (λ i l. omega arith) (all .met-is to-all) in
         (asked, met, omega (arith, asked, sum-le (askedOf possible S) 100000 hours (λ i l. omega arith)), omega (arith, met, sum-le (metOf working possible S) 100000 hours (λ i l. omega arith)))
-
--- A part without a power above the ceiling.
-pub none-above : (part : List ℕ) (hours : ℕ) → length part ≡ 12 * hours → highPowers part ≡ false → PowersWithin part (3 * hours)
-unfolding highPowers tooHigh
-none-above part hours all none j l = ltb-false 100000 _ (any-clear (highPower part) (length part / 4) none j (omega (arith, all)))

@@ -6,6 +6,7 @@ use Prim.Native.Nat.{ℕ, _*_, _≤_, min}
 use lib.ListN.{length}
 use Rattle.rules.specs.declared.Series.{Series}
 use Rattle.rules.specs.Range.{sum}
+use Rattle.rules.specs.Sheet.{series}
 use Rattle.laws.specs.Bounds.{mostWord}
 use Rattle.units.specs.Sums.{tenths}
 use Rattle.hours.specs.declared.k4.K4.{K4}
@@ -25,6 +26,10 @@ K4Before working possible S n k =
     × (k .met .0 ≡ sum (metOf working possible S) n)
     × (k .asked .0 ≤ mostWord * n)
     × (k .met .0 ≤ mostWord * n)
+
+-- The same of a month of columns: working powers stand at the part's front, possible ones after them.
+abbrev pub ColumnsSummed : List ℕ → ℕ → ℕ → K4 → Type 0
+ColumnsSummed part days S k = K4Before (powerIn part (series 0 4)) (powerIn part (series (96 * days) 4)) S (24 * days) k
 
 -- The sum of m over n hours, and the sum of what is met of it.
 abbrev pub k4Of : (ℕ → ℕ) → (ℕ → ℕ) → ℕ → ℕ → K4

@@ -6,10 +6,8 @@ ghost use Prim.Native.Nat.{_*_, _≤_};
 ghost use lib.ListN.{length};
 ghost use Rattle.laws.specs.Bounds.{mostWord};
 ghost use Rattle.refusals_powers.specs.Powers.{highPowers};
-ghost use Rattle.rules.specs.Sheet.{series};
 ghost use Rattle.units.specs.Sums.{tenths};
-ghost use Rattle.hours.specs.Series.{powerIn};
-ghost use Rattle.hours.specs.Sums.{K4Before};
+ghost use Rattle.hours.specs.Sums.{ColumnsSummed};
 ghost use Rattle.hours.specs.Within.{PowersWithin};
 ghost use Rattle.hours.specs.Figures.{isColumn, inColumns, sumsBelow, hourFigures};
 use crate::control::outside_average;
@@ -59,7 +57,7 @@ fn is_column(x: Series, start: usize) -> bool
 fn tried_sums(part: &[u8], days: u8, summed: Tenths) -> TriedSums
     requires { ⌜ (length (now part) ≡ 3 * (96 * days)) × (1 ≤ days) × (days ≤ 31) ⌝ }
     ensures { λ r. ⌜ (r .right ≡ true → PowersWithin (now (part .entry)) (48 * days)
-        × K4Before (powerIn (now (part .entry)) (series 0 4)) (powerIn (now (part .entry)) (series (96 * days) 4)) (summed .0) (24 * days) (r .sums)) ⌝ }
+        × ColumnsSummed (now (part .entry)) days (summed .0) (r .sums)) ⌝ }
     ensures { λ r. ⌜ (highPowers (now (part .entry)) ≡ false → r .right ≡ true) ⌝ }
 {
     let column = 96 * (days as usize);
@@ -81,13 +79,17 @@ struct MonthSums {
     sums: K4,
 }
 
-// There are no sums.
-fn none_summed() -> K4
-    ensures { λ r. ⌜ r ≡ record { asked = tenths 0; met = tenths 0 } ⌝ }
+// Of a month with a power above the ceiling.
+fn high_month() -> MonthSums
+    ensures { λ r. ⌜ r ≡ record { high = true; sums = record { asked = tenths 0; met = tenths 0 } } ⌝ }
 {
-    K4 {
+    let none = K4 {
         asked: Tenths(0),
         met: Tenths(0),
+    };
+    MonthSums {
+        high: true,
+        sums: none,
     }
 }
 
@@ -97,15 +99,12 @@ fn column_sums(part: &[u8], days: u8, summed: Tenths) -> MonthSums
     ensures { λ r. ⌜ r .high ≡ highPowers (now (part .entry)) ⌝ }
     ensures { λ r. ⌜ (r .high ≡ true → r .sums ≡ record { asked = tenths 0; met = tenths 0 })
         × (r .high ≡ false
-        → K4Before (powerIn (now (part .entry)) (series 0 4)) (powerIn (now (part .entry)) (series (96 * days) 4)) (summed .0) (24 * days) (r .sums)) ⌝ }
+        → ColumnsSummed (now (part .entry)) days (summed .0) (r .sums)) ⌝ }
 {
     let tried = tried_sums(part, days, summed);
     let outside = 192 * (days as usize);
     if !tried.right | high_powers(&part[outside..]) {
-        return MonthSums {
-            high: true,
-            sums: none_summed(),
-        };
+        return high_month();
     }
     let sums = tried.sums;
     MonthSums { high: false, sums }
@@ -120,10 +119,7 @@ fn month_sums(part: &[u8], of: HourSeries, days: u8, summed: Tenths) -> MonthSum
         return column_sums(part, days, summed);
     }
     if high_powers(part) {
-        return MonthSums {
-            high: true,
-            sums: none_summed(),
-        };
+        return high_month();
     }
     let sums = k4_sums(part, of.working, of.possible, days, summed);
     MonthSums { high: false, sums }

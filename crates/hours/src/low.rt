@@ -8,9 +8,7 @@ ghost use mathlib.Core.Bool.{true};
 ghost use Prim.Native.Nat.{_+_, _*_, _/_, _%_, _-_, _<_, _≤_};
 ghost use lib.ListN.{length};
 ghost use Rattle.rules.specs.Fields.{bigEndian};
-ghost use Rattle.rules.specs.Sheet.{series};
-ghost use Rattle.hours.specs.Series.{powerIn};
-ghost use Rattle.hours.specs.Sums.{K4Before};
+ghost use Rattle.hours.specs.Sums.{ColumnsSummed};
 ghost use Rattle.hours.specs.Low.{pairAt, turnedPair, turnAdds, LanesAfter, Whole, LanesSum, Clear, LowHours};
 use crate::k4::K4;
 use crate::k4::TriedSums;
@@ -167,7 +165,7 @@ pub(crate) fn low_sums(part: &[u8], days: usize, summed: u16) -> TriedSums
     requires { ⌜ (192 * days ≤ length (now part)) × (1 ≤ days) × (days ≤ 31) × (summed ≤ 65535) ⌝ }
     requires { ⌜ (bigEndian 4 (now part) 0 ≤ 65535) × (bigEndian 4 (now part) (96 * days) ≤ 65535) ⌝ }
     ensures { λ r. ⌜ (r .right ≡ true → LowHours (now (part .entry)) 0 (12 * days) × LowHours (now (part .entry)) (96 * days) (12 * days)
-        × K4Before (powerIn (now (part .entry)) (series 0 4)) (powerIn (now (part .entry)) (series (96 * days) 4)) summed (24 * days) (r .sums)) ⌝ }
+        × ColumnsSummed (now (part .entry)) days summed (r .sums)) ⌝ }
 {
     let k = all_lanes(part, days, summed);
     let cut = k.cut;

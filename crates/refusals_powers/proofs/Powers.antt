@@ -1,14 +1,15 @@
 -- Number 9 of powers, taken together, and of a part. Assumes nothing.
 use mathlib.Core.Path.{_≡_, sym, ap, _∙_}
-use mathlib.Core.Bool.{Bool, _||_}
+use mathlib.Core.Bool.{Bool, false, _||_}
 use mathlib.Core.List.{List}
-use Prim.Native.Nat.{ℕ, _+_, _*_, _/_, _≤_}
+use Prim.Native.Nat.{ℕ, _+_, _*_, _/_, _≤_, _<_}
 use native.Mathlib.Omega.{arith}
 use lib.ListN.{length, take, drop, length-take, length-drop}
+use borrow.Author.Tests.{ltb-false}
 use Rattle.rules.specs.Range.{any}
 use Rattle.rules.specs.Fields.{bigEndian}
 use Rattle.rules.specs.Refusals.{tooHigh}
-use Rattle.laws.proofs.Range.{any-append, any-same}
+use Rattle.laws.proofs.Range.{any-append, any-same, any-clear}
 use Rattle.laws.proofs.Fields.{read-part}
 use Rattle.refusals_powers.specs.Powers.{highPower, highPowers, someFrom, highFrom}
 
@@ -37,3 +38,8 @@ unfolding highPowers
 part-high s at n count e fits =
     let whole : length (take n (drop at s)) / 4 ≡ count = simp (length-take, length-drop) (omega arith) in
     rw whole (any-same _ _ count (λ i l. ap tooHigh (read-part 4 n at (4 * i) s (omega arith))))
+
+-- Each power of a part without one above the ceiling is within it.
+pub each-within : (s : List ℕ) → highPowers s ≡ false → (j : ℕ) → j < length s / 4 → bigEndian 4 s (4 * j) ≤ 100000
+unfolding highPowers tooHigh
+each-within s none j l = ltb-false 100000 (bigEndian 4 s (4 * j)) (any-clear (highPower s) (length s / 4) none j l)

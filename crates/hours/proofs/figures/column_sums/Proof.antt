@@ -26,8 +26,8 @@ part-high-powers-end c = search needs
 high-powers-requires : tie.Need-high-powers-requires
 high-powers-requires c κs = search needs
 
-none-summed-requires : tie.Need-none-summed-requires
-none-summed-requires c κs = search needs
+high-month-requires : tie.Need-high-month-requires
+high-month-requires c κs = search needs
 
 -- A power is above the ceiling where the sums are not right or an outside use is above it.
 some-high : (c : tie.Then1) → highPowers (c .before .before .before .before .before .before .args .part .now) ≡ true
@@ -51,7 +51,9 @@ none-above c =
     (none-high (s .args .part .now) (s .args .days) (s .pre .0) refl (tried .ensures .0 right .0) third, right)
 
 returns : tie.Need-returns
-returns c = (sym (some-high (c .before)), (λ e. c .none-summed .ensures, λ e. absurd (true≢false e)))
+returns c =
+    let month = c .high-month .ensures in
+    rw month (sym (some-high (c .before)), (λ e. refl, λ e. absurd (true≢false e)))
 
 returns-2 : tie.Need-returns-2
 returns-2 c =
@@ -68,6 +70,6 @@ column-sums-spec =
     part-high-powers-start
     part-high-powers-end
     high-powers-requires
-    none-summed-requires
+    high-month-requires
     returns
     returns-2)

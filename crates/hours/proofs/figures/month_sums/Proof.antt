@@ -1,8 +1,6 @@
-use mathlib.Core.Path.{_≡_, sym, _∙_}
-use mathlib.Core.Bool.{false}
+use mathlib.Core.Path.{sym, _∙_}
 use Prim.Native.Nat.{zero-le}
 use lib.ListN.{length}
-use Rattle.refusals_powers.specs.Powers.{highPowers}
 use Rattle.hours.specs.Figures.{sumsBelow}
 use Rattle.hours.proofs.Columns.{Columns, columns-are, columns-below}
 use borrow.Author.Needs.{needs}
@@ -31,15 +29,14 @@ returns c =
 high-powers-requires : tie.Need-high-powers-requires
 high-powers-requires c κs = search needs
 
-none-summed-requires : tie.Need-none-summed-requires
-none-summed-requires c κs = search needs
+high-month-requires : tie.Need-high-month-requires
+high-month-requires c κs = search needs
 
 returns-2 : tie.Need-returns-2
 unfolding sumsBelow
 returns-2 c =
     let high = sym (c .before .before .high-powers .ensures) ∙ c .before .if2 .taken in
-    let none = c .none-summed .ensures in
-    ((sym high, none ∙ rw high), (rw none zero-le, rw none zero-le))
+    rw (c .high-month .ensures) ((sym high, rw high), (zero-le, zero-le))
 
 k4-sums-requires : tie.Need-k4-sums-requires
 k4-sums-requires c κs = search needs
@@ -59,7 +56,7 @@ month-sums-spec =
     column-sums-requires
     returns
     high-powers-requires
-    none-summed-requires
+    high-month-requires
     returns-2
     k4-sums-requires
     returns-3)

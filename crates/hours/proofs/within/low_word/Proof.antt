@@ -1,5 +1,3 @@
-use native.Mathlib.Omega.{arith}
-use Prim.Native.Nat.{_+_}
 use borrow.Author.Needs.{needs}
 use Rattle.hours.proofs.within.low_word.Statement.{statement}
 use Rattle.hours.proofs.within.low_word.Tie as tie

@@ -1,5 +1,4 @@
 use native.Mathlib.Omega.{arith}
-use mathlib.Core.Path.{_≡_}
 use Rattle.hours.proofs.LowPowers.{Bytes}
 use Rattle.hours.proofs.WithinCeiling.{from-words}
 use borrow.Author.Needs.{needs}

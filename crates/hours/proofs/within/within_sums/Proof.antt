@@ -5,8 +5,9 @@ use lib.Dec.{eqb}
 use lib.ListN.{getD}
 use borrow.Author.Tests.{not-true, eqb-true, eq-eqb}
 use Rattle.laws.proofs.Range.{both}
+use Rattle.refusals_powers.proofs.Powers.{each-within}
 use Rattle.hours.proofs.LowPowers.{Bytes, four-bytes}
-use Rattle.hours.proofs.WithinMonth.{told-all, none-all, sums-all, none-above}
+use Rattle.hours.proofs.WithinMonth.{told-all, none-all, sums-all}
 use borrow.Author.Needs.{needs}
 use Rattle.hours.proofs.within.within_sums.Statement.{statement}
 use Rattle.hours.proofs.within.within_sums.Tie as tie
@@ -56,9 +57,9 @@ returns c =
           let sums = sums-all part hours (s .args .summed) bytes all (s .pre .3) (s .pre .2) within in
           (within, (asked-is ∙ sums .0, met-is ∙ sums .1, rw asked-is (sums .2), rw met-is (sums .3))),
       λ none.
-          let within = none-above part hours (s .pre .0) none in
-          let first : getD part 0 0 ≡ 0 = omega (arith, four-bytes part 0, within 0 (omega arith)) in
-          rw (eq-eqb (getD part 0 0) 0 first, c .told-high .ensures, none-all part hours (s .args .summed) bytes all (λ j l. within j (omega arith))),
+          let within = each-within part none in
+          let first : getD part 0 0 ≡ 0 = omega (arith, four-bytes part 0, within 0 (omega (arith, s .pre .0))) in
+          rw (eq-eqb (getD part 0 0) 0 first, c .told-high .ensures, none-all part hours (s .args .summed) bytes all (λ j l. within j (omega (arith, s .pre .0)))),
     )
 
 pub within-sums-spec : {M : Type 1} → statement M
