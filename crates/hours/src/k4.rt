@@ -16,7 +16,7 @@ pub struct K4 {
     pub met: Tenths,
 }
 
-// k4's sums that were taken as if every power were low enough for the work, and whether they are right.
+// k4's sums, taken as if every power were as low as the work needs it, and whether they are right.
 pub(crate) struct TriedSums {
     pub(crate) right: bool,
     pub(crate) sums: K4,

@@ -49,7 +49,7 @@ fn pair(s: &[u8], at: usize) -> u16
 
 // The number whose bytes these are.
 fn turned(x: u16) -> u16
-    ensures { λ r. ⌜ (r ≡ turnedPair x) × (r ≤ 65535) ⌝ }
+    ensures { λ r. ⌜ r ≡ turnedPair x ⌝ }
 {
     x % 256 * 256 + x / 256
 }
@@ -136,7 +136,7 @@ fn whole(left: u16, upper: u16) -> u64
 
 // The sum over all lanes.
 fn lanes_sum(left: [u16; 8], upper: [u16; 8]) -> u64
-    ensures { λ r. ⌜ LanesSum left upper r × (r ≤ 134739960) ⌝ }
+    ensures { λ r. ⌜ LanesSum left upper r ⌝ }
 {
     let mut sum: u64 = 0;
     let mut i: usize = 0;
@@ -162,7 +162,7 @@ fn is_clear(near: [u16; 8], far: [u16; 8]) -> bool
 
 // k4's sums of a month of so many days whose first powers are low, right where all are.
 pub(crate) fn low_sums(part: &[u8], days: usize, summed: u16) -> TriedSums
-    requires { ⌜ (192 * days ≤ length (now part)) × (1 ≤ days) × (days ≤ 31) × (summed ≤ 65535) ⌝ }
+    requires { ⌜ (192 * days ≤ length (now part)) × (1 ≤ days) × (days ≤ 31) ⌝ }
     requires { ⌜ (bigEndian 4 (now part) 0 ≤ 65535) × (bigEndian 4 (now part) (96 * days) ≤ 65535) ⌝ }
     ensures { λ r. ⌜ (r .right ≡ true → LowHours (now (part .entry)) 0 (12 * days) × LowHours (now (part .entry)) (96 * days) (12 * days)
         × ColumnsSummed (now (part .entry)) days summed (r .sums)) ⌝ }

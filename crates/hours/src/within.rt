@@ -1,6 +1,6 @@
-// k4's sums over two columns of hours, and whether all their powers are within the ceiling. One that is has 17 bits, its last two bytes and one bit of the
-// byte before, taken out of the machine's words. It is counted from 100,001 down in 32 bits, so that its highest bit tells that it is within the ceiling
-// and the smaller of two is found with a sign: one instruction serves four hours.
+// k4's sums over two columns of hours, and whether all their powers are within the ceiling, in one pass. A power within it has 17 bits: its last two bytes
+// and one bit of the byte before, taken out of the machine's words. 100,001 is taken from it in 32 bits, so that it is below 0 where it is within the
+// ceiling: its highest bit tells so, and the smaller of two is found with a sign, for which the machine has an instruction that serves four hours.
 ghost use mathlib.Core.Path.{_≡_};
 ghost use mathlib.Core.Bool.{true, false};
 ghost use Prim.Native.Nat.{_+_, _*_, _<_, _≤_, min};
@@ -17,16 +17,16 @@ use crate::k4::TriedSums;
 use fields::little_endian;
 use units::Tenths;
 
-// 4,294,967,296 less 100,001.
+// This added in 32 bits takes 100,001 away.
 const DOWN: u32 = 4_294_867_295;
 
-// A power as it is read: its last 17 bits less 100,001, and the word of its last three bytes and the next power's first.
+// What is read of a power: its last 17 bits less 100,001, and the word of its last three bytes and the next power's first.
 struct Read {
     under: u32,
     word: u32,
 }
 
-// Over some hours: the sums of m and of what was met of it, each less 100,001 an hour; the bits that all powers had there; the bits of all words.
+// Over some hours: the sums of m and of what was met of it, less 100,001 for each hour; the bits that all powers less 100,001 have; the bits of all words.
 struct Within {
     asked: u32,
     met: u32,
@@ -42,6 +42,7 @@ fn low_word(s: &[u8], at: usize) -> u32
     little_endian(s[at], s[at + 1], s[at + 2], s[at + 3])
 }
 
+// A power read from two words, of which the second begins with its last byte.
 fn power_read(s: &[u8], at: usize) -> Read
     requires { ⌜ at + 7 ≤ length (now s) ⌝ }
     ensures { λ r. ⌜ r ≡ readAt (now (s .entry)) at ⌝ }
@@ -64,7 +65,7 @@ fn signed(x: u32) -> i32
     -1 - ((4_294_967_295 - x) as i32)
 }
 
-// The smaller of two numbers that are below 0 with a sign. The machine has an instruction for numbers with a sign alone.
+// The smaller of two numbers that are below 0 with a sign.
 fn smaller(a: u32, b: u32) -> u32
     ensures { λ r. ⌜ (2147483648 ≤ a → 2147483648 ≤ b → r ≡ min a b) ⌝ }
 {
@@ -108,8 +109,8 @@ fn all_within(part: &[u8], hours: usize, summed: u32) -> Within
     k
 }
 
-// What was read tells of a power above the ceiling: one that is not within it by its last 17 bits, one with a bit above them in its second byte, or one
-// with a first byte.
+// What was read tells of a power above the ceiling: by its last 17 bits, by another bit of its second byte, or by its first byte, which stands in the word
+// of the power before it.
 fn told_high(under: u32, words: u32) -> bool
     ensures { λ r. ⌜ r ≡ toldHigh under words ⌝ }
 {
@@ -117,6 +118,7 @@ fn told_high(under: u32, words: u32) -> bool
 }
 
 // k4's sums of so many hours, right where no power of the part is above the ceiling. They are not called right where a working or a possible power is.
+// The part's first byte stands in no word that was read, so it is tried here.
 pub(crate) fn within_sums(part: &[u8], hours: usize, summed: u32) -> TriedSums
     requires { ⌜ (length (now part) ≡ 12 * hours) × (1 ≤ hours) × (hours ≤ 744) × (summed ≤ 100000) ⌝ }
     ensures { λ r. ⌜ (r .right ≡ true → PowersWithin (now (part .entry)) (2 * hours)

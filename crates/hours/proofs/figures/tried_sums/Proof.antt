@@ -35,7 +35,7 @@ low-sums-requires : tie.Need-low-sums-requires
 low-sums-requires c κs =
     let k = lows (c .before) in
     let p = c .before .before .before .before .before .before .pre in
-    ((omega (arith, p .0), p .1, p .2, k .0), (k .1, k .2))
+    ((omega (arith, p .0), p .1, p .2), (k .1, k .2))
 
 returns : tie.Need-returns
 returns c =

@@ -63,9 +63,9 @@ returns c =
     let far : 0 + (4 * a .half + 2 * a .k) ≡ 4 * a .half + 2 * a .k = omega arith in
     rw (
       c .less2 .ensures,
-      c .before .turned2 .ensures .0,
+      c .before .turned2 .ensures,
       c .before .before .less .ensures,
-      c .before .before .before .turned .ensures .0,
+      c .before .before .before .turned .ensures,
       c .before .before .before .before .pair4 .ensures .0,
       c .before .before .before .before .before .pair3 .ensures .0,
       c .before .before .before .before .before .before .pair2 .ensures .0,

@@ -61,7 +61,7 @@ returns : tie.Need-returns Inv-loop μ-loop
 returns c =
     let l = c .before .loop in
     let end : l .i ≡ 8 = omega arith in
-    (λ f q few a b. l .inv .0 f q few a b ∙ ap (sum (λ j. sum (λ t. f (8 * t + j)) q)) end ∙ all-lanes f q, omega (arith, l .inv .1))
+    λ f q few a b. l .inv .0 f q few a b ∙ ap (sum (λ j. sum (λ t. f (8 * t + j)) q)) end ∙ all-lanes f q
 
 pub lanes-sum-spec : {M : Type 1} → statement M
 lanes-sum-spec =

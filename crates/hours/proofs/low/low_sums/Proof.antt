@@ -6,11 +6,9 @@ use native.Mathlib.Nat.{mul-le-mul}
 use lib.ListN.{length}
 use Rattle.rules.specs.Fields.{bigEndian}
 use Rattle.rules.specs.Range.{sum}
-use Rattle.rules.specs.Sheet.{series}
 use Rattle.units.specs.Sums.{tenths}
 use Rattle.hours.specs.declared.low.Lanes.{Lanes}
-use Rattle.hours.specs.Series.{powerIn}
-use Rattle.hours.specs.Sums.{K4Before}
+use Rattle.hours.specs.Sums.{ColumnsSummed}
 use Rattle.hours.specs.Low.{LowHours, LanesAfter, LanesSum, Clear}
 use Rattle.hours.proofs.LowPowers.{Bytes}
 use Rattle.hours.proofs.LowMonth.{working-low, possible-low, turnAsked, turnMet, asked-left, met-left, all-asked, all-met}
@@ -46,7 +44,7 @@ module _ (part : List ℕ) (bytes : Bytes part) (days S : ℕ) (stand : 192 * da
 
   all : {cut short : ℕ} → LanesSum (k .cut) (k .upper) cut → LanesSum (k .short) (k .over) short
       → LowHours part 0 (12 * days) × LowHours part (96 * days) (12 * days)
-      × K4Before (powerIn part (series 0 4)) (powerIn part (series (96 * days) 4)) S (24 * days) (record { asked = tenths (24 * days * S - cut); met = tenths (24 * days * S - cut - short) })
+      × ColumnsSummed part days S (record { asked = tenths (24 * days * S - cut); met = tenths (24 * days * S - cut - short) })
   all {cut} {short} a m =
       let hours : 2 * (12 * days) ≡ 24 * days = omega arith in
       let asked : 24 * days * S - cut ≡ sum (turnAsked part (12 * days) S) (24 * days) = omega (arith, asked-is part days S few lanes a) in
@@ -70,7 +68,7 @@ mul-asked c = search needs
 mul-asked-2 : tie.Need-mul-asked-2
 mul-asked-2 c =
     let s = c .before .before .before .before .before .before .before .before in
-    record { fits = omega (arith, most (s .args .days) (s .args .summed) (s .pre .0 .2) (s .pre .0 .3)) }
+    record { fits = omega (arith, most (s .args .days) (s .args .summed) (s .pre .0 .2) (omega arith)) }
 
 lanes-sum-requires : tie.Need-lanes-sum-requires
 lanes-sum-requires c κs = search needs
@@ -79,7 +77,7 @@ sub-asked : tie.Need-sub-asked
 sub-asked c =
     let s = c .before .before .before .before .before .before .before .before .before in
     let k = c .before .before .before .before .before .before .before .all-lanes .ensures in
-    omega (arith, asked-is (s .args .part .now) (s .args .days) (s .args .summed) (s .pre .0 .2) k (c .lanes-sum .ensures .0))
+    omega (arith, asked-is (s .args .part .now) (s .args .days) (s .args .summed) (s .pre .0 .2) k (c .lanes-sum .ensures))
 
 lanes-sum-requires-2 : tie.Need-lanes-sum-requires-2
 lanes-sum-requires-2 c κs = search needs
@@ -90,8 +88,8 @@ sub-t17 c =
     let k = c .before .before .before .before .before .before .before .before .all-lanes .ensures in
     omega (
       arith,
-      asked-is (s .args .part .now) (s .args .days) (s .args .summed) (s .pre .0 .2) k (c .before .lanes-sum .ensures .0),
-      met-is (s .args .part .now) (s .args .days) (s .args .summed) (s .pre .0 .2) k (c .lanes-sum2 .ensures .0),
+      asked-is (s .args .part .now) (s .args .days) (s .args .summed) (s .pre .0 .2) k (c .before .lanes-sum .ensures),
+      met-is (s .args .part .now) (s .args .days) (s .args .summed) (s .pre .0 .2) k (c .lanes-sum2 .ensures),
     )
 
 is-clear-requires : tie.Need-is-clear-requires
@@ -101,8 +99,8 @@ returns : tie.Need-returns
 returns c e =
     let s = c .before .before .before .before .before .before .before .before .before .before .before in
     let p = s .pre .0 in
-    all (s .args .part .now) (λ i. omega (arith, c .before .before .before .before .before .before .before .before .before .before .shared-slice-known .given i)) (s .args .days) (s .args .summed) (p .0) (p .1) (p .2) (p .3) (s .pre .1 .0) (s .pre .1 .1) (c .before .before .before .before .before .before .before .before .before .all-lanes .ensures) (c .is-clear .ensures e)
-    (c .before .before .lanes-sum .ensures .0) (c .before .lanes-sum2 .ensures .0)
+    all (s .args .part .now) (λ i. omega (arith, c .before .before .before .before .before .before .before .before .before .before .shared-slice-known .given i)) (s .args .days) (s .args .summed) (p .0) (p .1) (p .2) (omega arith) (s .pre .1 .0) (s .pre .1 .1) (c .before .before .before .before .before .before .before .before .before .all-lanes .ensures) (c .is-clear .ensures e)
+    (c .before .before .lanes-sum .ensures) (c .before .lanes-sum2 .ensures)
 
 pub low-sums-spec : {M : Type 1} → statement M
 low-sums-spec =
