@@ -120,7 +120,8 @@ fn by_column(part: &[u8], start: u16, days: u8, control: ControlDays) -> Control
     }
 }
 
-// The control hours of a series in a part without a power above the ceiling.
+// The control hours of a series in a part without a power above the ceiling. Nothing is counted where the part ends before the powers do, or in a month of
+// more than 31 days.
 fn outside_hours(part: &[u8], x: Series, days: u8, control: ControlDays) -> Control
     requires { ⌜ highPowers (now part) ≡ false ⌝ }
     ensures { λ r. ⌜ r ≡ powerControl (now (part .entry)) x days (control .on) ⌝ }
@@ -147,7 +148,8 @@ pub(crate) fn outside_average(part: &[u8], x: Series, days: u8, control: Control
     Hundredths(average_of(outside_hours(part, x, days, control), HUNDREDTH))
 }
 
-// The net powers of a day's hours 17 to 22 in all: what evening_powers says of one series, of one less another (docs/DECISIONS.md, Requests, 7).
+// The net powers of a day's hours 17 to 22 in all. For these there is a loop of its own, of the same lines as for the powers of a series, so that each
+// stands where it is called (docs/DECISIONS.md, Requests, 7).
 fn evening_net(part: &[u8], of: Series, taken: Series, day: usize) -> Tenths
     requires { ⌜ Stands (now part) of (24 * day + 23) × Stands (now part) taken (24 * day + 23) × (day < 256) ⌝ }
     ensures { λ r. ⌜ (r .0 ≡ evening (netIn (now (part .entry)) of taken) day) × (r .0 ≤ 6 * mostWord) ⌝ }
@@ -180,7 +182,7 @@ fn by_net(part: &[u8], of: Series, taken: Series, days: u8, control: ControlDays
     Control { counted, count }
 }
 
-// The control hours of one series less another. Nothing is counted where the part ends before the powers do, or in a month of more than 31 days.
+// The same of one series less another, however high their powers are.
 fn net_hours(part: &[u8], of: Series, taken: Series, days: u8, control: ControlDays) -> Control
     ensures { λ r. ⌜ r ≡ netControl (now (part .entry)) of taken days (control .on) ⌝ }
     ensures fits { λ r. ⌜ (r .counted .0 ≤ mostWord * r .count) × (r .count ≤ 186) ⌝ }
@@ -195,7 +197,7 @@ fn net_hours(part: &[u8], of: Series, taken: Series, days: u8, control: ControlD
     }
 }
 
-// Their control average to a tenth, in a month of so many days; 0 where nothing is counted.
+// Their control average to a tenth; 0 where nothing is counted.
 pub fn net_average_to_tenth(
     part: &[u8],
     of: Series,
