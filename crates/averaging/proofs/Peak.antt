@@ -1,6 +1,6 @@
 -- Net power in a record's hours, and the peak that comes of it. Assumes nothing.
 use mathlib.Core.Path.{_≡_, refl, ap₂}
-use mathlib.Core.Bool.{true}
+use mathlib.Core.Bool.{true, _&&_}
 use mathlib.Core.List.{List}
 use Prim.Native.Nat.{ℕ, _+_, _-_, _*_, _≤_, _<_}
 use native.Mathlib.Omega.{arith}
@@ -16,9 +16,9 @@ use Rattle.rules.specs.ComplexRecord.{recordWidth, imported, drawnSeries, sentS
 use Rattle.rules.specs.Averaging.{net, complexPeak}
 use Rattle.laws.proofs.Fields.{read-drop}
 use Rattle.calendar.specs.Days.{dayOn}
-use Rattle.hours.specs.Series.{stands, powerIn, hourlyStands, hourlyIn}
+use Rattle.hours.specs.Series.{stands, powerIn, netIn}
 use Rattle.hours.proofs.Known.{average-known}
-use Rattle.complex_record.specs.Net.{netPower, netAverage}
+use Rattle.complex_record.specs.Net.{netAverage}
 
 module _ (h : Header) (r : List ℕ) (long : recordWidth h ≤ length r) where
   -- A series stands in the hours, and is read there.
@@ -32,11 +32,10 @@ module _ (h : Header) (r : List ℕ) (long : recordWidth h ≤ length r) where
   unfolding power
   read x i = read-drop 4 9 r (x .start + x .step * i)
 
-  both-stand : hourlyStands (length (drop 9 r)) netPower (hours h) ≡ true
-  unfolding hourlyStands
+  both-stand : (stands (length (drop 9 r)) drawnSeries (hours h) && stands (length (drop 9 r)) sentSeries (hours h)) ≡ true
   both-stand = rw (standing drawnSeries refl (omega arith), standing sentSeries refl (omega arith))
 
-  net-read : (i : ℕ) → i < hours h → hourlyIn (drop 9 r) netPower i ≡ net r i
+  net-read : (i : ℕ) → i < hours h → netIn (drop 9 r) drawnSeries sentSeries i ≡ net r i
   unfolding net drawn sent
   net-read i b = ap₂ (λ (a b : ℕ). a - b) (read drawnSeries i) (read sentSeries i)
 
@@ -45,4 +44,4 @@ module _ (h : Header) (r : List ℕ) (long : recordWidth h ≤ length r) where
     pub peak-known : {average taken peak : ℕ} → average ≡ netAverage r (h .days) on → taken ≡ imported r → peak ≡ average - taken
         → peak ≡ complexPeak h r
     unfolding complexPeak
-    peak-known averaged less is = rw (is, averaged, less, average-known h few from to on days (drop 9 r) netPower (net r) both-stand net-read tenth)
+    peak-known averaged less is = rw (is, averaged, less, average-known h few from to on days (netIn (drop 9 r) drawnSeries sentSeries) (net r) both-stand net-read tenth)

@@ -3,12 +3,11 @@ ghost use mathlib.Core.Path.{_≡_};
 ghost use Rattle.rules.specs.ComplexRecord.{complex, imported};
 ghost use Rattle.rules.specs.Averaging.{badRecord, recordTests};
 ghost use Rattle.rules.specs.Refusals.{firstOf};
-ghost use Rattle.complex_record.specs.Net.{netPower, netAverage};
+ghost use Rattle.complex_record.specs.Net.{netAverage};
 use calendar::ControlDays;
 use fields::byte;
 use fields::word;
-use hours::Hourly;
-use hours::average_to_tenth;
+use hours::net_average_to_tenth;
 use refusals_form::first;
 use refusals_powers::high_together;
 use rules::Header;
@@ -29,24 +28,16 @@ pub fn imported(rec: &[u8]) -> u32
     word(rec, 5)
 }
 
-// Net power, in the hours of a record: drawn less sent out.
-fn net_power() -> Hourly
-    ensures { λ r. ⌜ r ≡ netPower ⌝ }
-{
-    let drawn = Series { start: 0, step: 8 };
-    let sent = Series { start: 4, step: 8 };
-    Hourly::Net(drawn, sent)
-}
-
-// The control average of net power, to a tenth, in a month of so many days. Nothing is counted where the record ends before the hours do.
+// The control average of net power, drawn less sent out, to a tenth. Nothing is counted where the record ends before the hours of so many days do.
 pub fn net_average(rec: &[u8], days: u8, control: ControlDays) -> Tenths
     ensures { λ r. ⌜ r .0 ≡ netAverage (now (rec .entry)) days (control .on) ⌝ }
 {
-    let x = net_power();
+    let drawn = Series { start: 0, step: 8 };
+    let sent = Series { start: 4, step: 8 };
     if rec.len() < 9 {
-        return average_to_tenth(&rec[..0], x, days, control);
+        return net_average_to_tenth(&rec[..0], drawn, sent, days, control);
     }
-    average_to_tenth(&rec[9..], x, days, control)
+    net_average_to_tenth(&rec[9..], drawn, sent, days, control)
 }
 
 // 16.

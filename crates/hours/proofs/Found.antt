@@ -7,9 +7,8 @@ use Rattle.rules.specs.declared.HourSeries.{HourSeries}
 use Rattle.rules.specs.Units.{hundredth}
 use Rattle.units.specs.Sums.{hundredths}
 use Rattle.refusals_powers.specs.Powers.{highPowers}
-use Rattle.hours.specs.declared.series.Hourly.{Hourly}
 use Rattle.hours.specs.Sums.{k4In}
-use Rattle.hours.specs.Control.{averageIn}
+use Rattle.hours.specs.Control.{powerControl, averageOf}
 use Rattle.hours.specs.Figures.{sumsBelow, hourFigures}
 
 module _ (part : List ℕ) (of : HourSeries) (days S on : ℕ) where
@@ -22,6 +21,6 @@ module _ (part : List ℕ) (of : HourSeries) (days S on : ℕ) where
     unfolding hourFigures sumsBelow
     sums-found = rw none
 
-    pub average-found : hourFigures part of days S on .average ≡ hundredths (averageIn hundredth part (Hourly.Power (of .outside)) days on)
+    pub average-found : hourFigures part of days S on .average ≡ hundredths (averageOf hundredth (powerControl part (of .outside) days on))
     unfolding hourFigures
     average-found = rw none

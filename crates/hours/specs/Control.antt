@@ -1,18 +1,18 @@
--- The control hours of a series, as the struct that carries their sum and count.
+-- The control hours of a series and of one less another, as the struct that carries their sum and count.
 use Prim.Native.Nat.{ℕ, _+_, _*_, _≤_}
 use mathlib.Core.Path.{_≡_}
-use mathlib.Core.Bool.{cond, _&&_}
+use mathlib.Core.Bool.{Bool, cond, _&&_}
 use mathlib.Core.List.{List}
 use lib.ListN.{length}
 use lib.Dec.{leb}
+use Rattle.rules.specs.declared.Series.{Series}
 use Rattle.rules.specs.Range.{sum, when}
 use Rattle.rules.specs.ControlHours.{average}
 use Rattle.laws.proofs.ControlHours.{evening}
 use Rattle.units.specs.Sums.{tenths}
 use Rattle.calendar.specs.Days.{dayOn}
 use Rattle.hours.specs.declared.control.Control.{Control}
-use Rattle.hours.specs.declared.series.Hourly.{Hourly}
-use Rattle.hours.specs.Series.{hourlyStands, hourlyIn}
+use Rattle.hours.specs.Series.{stands, powerIn, netIn}
 
 -- The sum of a series over the hours 17 to 22 of the days that are marked, among the first n, and how many hours these are.
 abbrev pub controlOf : (ℕ → ℕ) → ℕ → ℕ → Control
@@ -22,16 +22,22 @@ controlOf series on n =
       count = sum (λ d. when (dayOn on d) 6) n;
     }
 
--- Of what a part says of the hours; nothing where the part ends before the powers of so many days do, or in a month of more than 31 days.
-unfoldable pub controlIn : List ℕ → Hourly → ℕ → ℕ → Control
-controlIn part x days on =
-    cond (leb days 31 && hourlyStands (length part) x (24 * days))
-    (controlOf (hourlyIn part x) on days)
-    (record { counted = tenths 0; count = 0 })
+-- Of a month of so many days; nothing where not all of its powers stand in the part, or where it has more than 31 days.
+unfoldable pub controlIn : Bool → (ℕ → ℕ) → ℕ → ℕ → Control
+controlIn standing series days on = cond (leb days 31 && standing) (controlOf series on days) (record { counted = tenths 0; count = 0 })
 
--- Its control average, in units of which so many are a tenth. [Control hours; Requests, 6]
-abbrev pub averageIn : ℕ → List ℕ → Hourly → ℕ → ℕ → ℕ
-averageIn fineness part x days on = average (fineness * controlIn part x days on .counted .0) (controlIn part x days on .count)
+-- The control hours of a series in a part.
+abbrev pub powerControl : List ℕ → Series → ℕ → ℕ → Control
+powerControl part x days on = controlIn (stands (length part) x (24 * days)) (powerIn part x) days on
+
+-- Those of one series less another.
+abbrev pub netControl : List ℕ → Series → Series → ℕ → ℕ → Control
+netControl part of taken days on =
+    controlIn (stands (length part) of (24 * days) && stands (length part) taken (24 * days)) (netIn part of taken) days on
+
+-- The average of control hours, in units of which so many are a tenth. [Control hours; Requests, 6]
+abbrev pub averageOf : ℕ → Control → ℕ
+averageOf fineness c = average (fineness * c .counted .0) (c .count)
 
 -- Numbers that are v in all, each at most a bound: some in the upper 32 bits of a word, the others in the lower ones.
 pub record Twos (v most word : ℕ) : Type 0 where

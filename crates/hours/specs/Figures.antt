@@ -10,9 +10,8 @@ use Rattle.units.specs.Sums.{tenths, hundredths}
 use Rattle.refusals_powers.specs.Powers.{highPowers}
 use Rattle.hours.specs.declared.figures.HourFigures.{HourFigures}
 use Rattle.hours.specs.declared.k4.K4.{K4}
-use Rattle.hours.specs.declared.series.Hourly.{Hourly}
 use Rattle.hours.specs.Sums.{k4In}
-use Rattle.hours.specs.Control.{averageIn}
+use Rattle.hours.specs.Control.{powerControl, averageOf}
 
 -- Powers one after the other from a place on.
 unfoldable pub isColumn : Series → ℕ → Bool
@@ -38,5 +37,5 @@ hourFigures part of days S on =
     record {
       high = highPowers part;
       sums = sumsBelow part of days S;
-      average = hundredths (cond (highPowers part) 0 (averageIn hundredth part (Hourly.Power (of .outside)) days on));
+      average = hundredths (cond (highPowers part) 0 (averageOf hundredth (powerControl part (of .outside) days on)));
     }

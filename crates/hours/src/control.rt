@@ -1,19 +1,15 @@
-// The control average of an hourly figure: its sum over the control hours by their count, to a tenth or to a hundredth.
+// The control average of a series, to a hundredth, and of one series less another, to a tenth: the sum over the control hours by their count.
 ghost use mathlib.Core.Path.{_≡_};
 ghost use mathlib.Core.Bool.{false};
 ghost use Prim.Native.Nat.{ℕ, _+_, _*_, _<_, _≤_};
 ghost use Rattle.rules.specs.Sheet.{series};
 ghost use Rattle.refusals_powers.specs.Powers.{highPowers};
-ghost use Rattle.rules.specs.ControlHours.{average};
 ghost use Rattle.laws.proofs.ControlHours.{evening};
 ghost use Rattle.laws.specs.Bounds.{mostWord};
-ghost use Rattle.hours.specs.declared.series.Hourly.{Hourly};
-ghost use Rattle.hours.specs.Series.{Stands, powerIn, HourlyStands, hourlyIn};
+ghost use Rattle.hours.specs.Series.{Stands, powerIn, netIn};
 ghost use Rattle.rules.specs.Units.{tenth, hundredth};
-ghost use Rattle.hours.specs.Control.{controlOf, controlIn, averageIn, Twos};
-use crate::series::Hourly;
-use crate::series::figure_at;
-use crate::series::hourly_stands;
+ghost use Rattle.hours.specs.Control.{controlOf, powerControl, netControl, averageOf, Twos};
+use crate::series::net_at;
 use crate::series::power;
 use crate::series::stands;
 use calendar::ControlDays;
@@ -25,47 +21,27 @@ use units::nearest;
 
 const TWO_TO_32: u64 = 4_294_967_296;
 
-// The figures of the control hours in all, and how many hours these are.
+// The sum over the control hours, and how many hours these are.
 struct Control {
     counted: Tenths,
     count: u64,
 }
 
-// The figures of a day's hours 17 to 22 in all.
-fn evening_sum(part: &[u8], x: Hourly, day: usize) -> Tenths
-    requires { ⌜ HourlyStands (now part) x (24 * day + 23) × (day < 256) ⌝ }
-    ensures { λ r. ⌜ (r .0 ≡ evening (hourlyIn (now (part .entry)) x) day) × (r .0 ≤ 6 * mostWord) ⌝ }
+// The units that an average is rounded to, as how many of them make a tenth.
+const TENTH: u64 = 1;
+
+const HUNDREDTH: u64 = 10;
+
+// The sum over the control hours by their count, in units of which so many make a tenth.
+fn average_of(control: Control, fineness: u64) -> u64
+    requires { ⌜ (control .counted .0 ≤ mostWord * control .count) × (control .count ≤ 186) × (fineness ≤ 10) ⌝ }
+    ensures { λ r. ⌜ r ≡ averageOf fineness control ⌝ }
 {
-    let mut total = Tenths(0);
-    let mut t: usize = 0;
-    while t < 6 {
-        total = total.plus(figure_at(part, x, 24 * day + (17 + t)));
-        t += 1;
-    }
-    total
+    let counted = control.counted;
+    nearest(fineness * counted.0, control.count)
 }
 
-// Day by day: six hours of each control day.
-fn by_day(part: &[u8], x: Hourly, days: u8, control: ControlDays) -> Control
-    requires { ⌜ HourlyStands (now part) x (24 * days) × (days ≤ 31) ⌝ }
-    ensures { λ r. ⌜ (r ≡ controlOf (hourlyIn (now (part .entry)) x) (control .on) days) × (r .counted .0 ≤ mostWord * r .count)
-        × (r .count ≤ 186) ⌝ }
-{
-    let mut counted = Tenths(0);
-    let mut count: u64 = 0;
-    let mut day: usize = 0;
-    while day < days as usize {
-        if is_on(control, day as u8) {
-            counted = counted.plus(evening_sum(part, x, day));
-            count = count + 6;
-        }
-        day += 1;
-    }
-    Control { counted, count }
-}
-
-// The powers of a day's hours 17 to 22 in all. It says for one series what evening_sum says for any figure, so that the settlement and the averaging
-// have a loop each, which stands where it is called (docs/DECISIONS.md, Requests, 7).
+// The powers of a day's hours 17 to 22 in all.
 fn evening_powers(part: &[u8], x: Series, day: usize) -> Tenths
     requires { ⌜ Stands (now part) x (24 * day + 23) × (day < 256) ⌝ }
     ensures { λ r. ⌜ (r .0 ≡ evening (powerIn (now (part .entry)) x) day) × (r .0 ≤ 6 * mostWord) ⌝ }
@@ -144,45 +120,11 @@ fn by_column(part: &[u8], start: u16, days: u8, control: ControlDays) -> Control
     }
 }
 
-// Of a month of so many days. Nothing is counted where the part ends before the powers do, or in a month of more than 31 days.
-fn control_hours(part: &[u8], x: Hourly, days: u8, control: ControlDays) -> Control
-    ensures { λ r. ⌜ r ≡ controlIn (now (part .entry)) x days (control .on) ⌝ }
-    ensures fits { λ r. ⌜ (r .counted .0 ≤ mostWord * r .count) × (r .count ≤ 186) ⌝ }
-{
-    if (days <= 31) & hourly_stands(part, x, 24 * (days as u16)) {
-        return by_day(part, x, days, control);
-    }
-    Control {
-        counted: Tenths(0),
-        count: 0,
-    }
-}
-
-// The units that an average is rounded to, as how many of them make a tenth.
-const TENTH: u64 = 1;
-
-const HUNDREDTH: u64 = 10;
-
-// The sum over the control hours by their count, in units of which so many make a tenth.
-fn average_of(control: Control, fineness: u64) -> u64
-    requires { ⌜ (control .counted .0 ≤ mostWord * control .count) × (control .count ≤ 186) × (fineness ≤ 10) ⌝ }
-    ensures { λ r. ⌜ r ≡ average (fineness * control .counted .0) (control .count) ⌝ }
-{
-    let counted = control.counted;
-    nearest(fineness * counted.0, control.count)
-}
-
-// The control average to a tenth, in a month of so many days; 0 where nothing is counted.
-pub fn average_to_tenth(part: &[u8], x: Hourly, days: u8, control: ControlDays) -> Tenths
-    ensures { λ r. ⌜ r .0 ≡ averageIn tenth (now (part .entry)) x days (control .on) ⌝ }
-{
-    Tenths(average_of(control_hours(part, x, days, control), TENTH))
-}
-
-// The control hours of a series in a part without a power above the ceiling.
+// The control hours of a series in a part without a power above the ceiling. Nothing is counted where the part ends before the powers do, or in a month of
+// more than 31 days.
 fn outside_hours(part: &[u8], x: Series, days: u8, control: ControlDays) -> Control
     requires { ⌜ highPowers (now part) ≡ false ⌝ }
-    ensures { λ r. ⌜ r ≡ controlIn (now (part .entry)) (Hourly.Power x) days (control .on) ⌝ }
+    ensures { λ r. ⌜ r ≡ powerControl (now (part .entry)) x days (control .on) ⌝ }
     ensures fits { λ r. ⌜ (r .counted .0 ≤ mostWord * r .count) × (r .count ≤ 186) ⌝ }
 {
     if (days <= 31) & stands(part, x, 24 * (days as u16)) {
@@ -200,8 +142,70 @@ fn outside_hours(part: &[u8], x: Series, days: u8, control: ControlDays) -> Cont
 // Its control average to a hundredth.
 pub(crate) fn outside_average(part: &[u8], x: Series, days: u8, control: ControlDays) -> Hundredths
     requires { ⌜ highPowers (now part) ≡ false ⌝ }
-    ensures { λ r. ⌜ r .0 ≡ averageIn hundredth (now (part .entry)) (Hourly.Power x) days (control .on) ⌝ }
+    ensures { λ r. ⌜ r .0 ≡ averageOf hundredth (powerControl (now (part .entry)) x days (control .on)) ⌝ }
     ensures fits { λ r. ⌜ r .0 ≤ 10 * mostWord ⌝ }
 {
     Hundredths(average_of(outside_hours(part, x, days, control), HUNDREDTH))
+}
+
+// The net powers of a day's hours 17 to 22 in all. For these there is a loop of its own, of the same lines as for the powers of a series, so that each
+// stands where it is called (docs/DECISIONS.md, Requests, 7).
+fn evening_net(part: &[u8], of: Series, taken: Series, day: usize) -> Tenths
+    requires { ⌜ Stands (now part) of (24 * day + 23) × Stands (now part) taken (24 * day + 23) × (day < 256) ⌝ }
+    ensures { λ r. ⌜ (r .0 ≡ evening (netIn (now (part .entry)) of taken) day) × (r .0 ≤ 6 * mostWord) ⌝ }
+{
+    let mut total = Tenths(0);
+    let mut t: usize = 0;
+    while t < 6 {
+        total = total.plus(net_at(part, of, taken, 24 * day + (17 + t)));
+        t += 1;
+    }
+    total
+}
+
+// Day by day: six net powers of each control day.
+fn by_net(part: &[u8], of: Series, taken: Series, days: u8, control: ControlDays) -> Control
+    requires { ⌜ Stands (now part) of (24 * days) × Stands (now part) taken (24 * days) × (days ≤ 31) ⌝ }
+    ensures { λ r. ⌜ (r ≡ controlOf (netIn (now (part .entry)) of taken) (control .on) days) × (r .counted .0 ≤ mostWord * r .count)
+        × (r .count ≤ 186) ⌝ }
+{
+    let mut counted = Tenths(0);
+    let mut count: u64 = 0;
+    let mut day: usize = 0;
+    while day < days as usize {
+        if is_on(control, day as u8) {
+            counted = counted.plus(evening_net(part, of, taken, day));
+            count = count + 6;
+        }
+        day += 1;
+    }
+    Control { counted, count }
+}
+
+// The same of one series less another, however high their powers are.
+fn net_hours(part: &[u8], of: Series, taken: Series, days: u8, control: ControlDays) -> Control
+    ensures { λ r. ⌜ r ≡ netControl (now (part .entry)) of taken days (control .on) ⌝ }
+    ensures fits { λ r. ⌜ (r .counted .0 ≤ mostWord * r .count) × (r .count ≤ 186) ⌝ }
+{
+    let hours = 24 * (days as u16);
+    if (days <= 31) & (stands(part, of, hours) & stands(part, taken, hours)) {
+        return by_net(part, of, taken, days, control);
+    }
+    Control {
+        counted: Tenths(0),
+        count: 0,
+    }
+}
+
+// Their control average to a tenth; 0 where nothing is counted.
+pub fn net_average_to_tenth(
+    part: &[u8],
+    of: Series,
+    taken: Series,
+    days: u8,
+    control: ControlDays,
+) -> Tenths
+    ensures { λ r. ⌜ r .0 ≡ averageOf tenth (netControl (now (part .entry)) of taken days (control .on)) ⌝ }
+{
+    Tenths(average_of(net_hours(part, of, taken, days, control), TENTH))
 }

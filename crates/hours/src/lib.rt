@@ -6,8 +6,7 @@ mod low;
 mod series;
 mod within;
 
-pub use control::average_to_tenth;
+pub use control::net_average_to_tenth;
 pub use figures::HourFigures;
 pub use figures::hour_figures;
 pub use k4::K4;
-pub use series::Hourly;

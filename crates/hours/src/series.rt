@@ -3,7 +3,7 @@ ghost use mathlib.Core.Path.{_≡_};
 ghost use Prim.Native.Nat.{_+_, _<_, _≤_};
 ghost use lib.ListN.{length};
 ghost use Rattle.laws.specs.Bounds.{mostWord};
-ghost use Rattle.hours.specs.Series.{stands, Stands, powerIn, hourlyStands, HourlyStands, hourlyIn};
+ghost use Rattle.hours.specs.Series.{stands, Stands, powerIn, netIn};
 use fields::word;
 use rules::Series;
 use units::Tenths;
@@ -26,31 +26,10 @@ pub(crate) fn power(part: &[u8], x: Series, i: usize) -> u32
     word(&part[at..end], 0)
 }
 
-// What a part says of each hour: the power of a series, or the power of one series less that of another, not below 0.
-pub enum Hourly {
-    Power(Series),
-    Net(Series, Series),
-}
-
-// The powers of so many hours stand in the part.
-pub(crate) fn hourly_stands(part: &[u8], x: Hourly, count: u16) -> bool
-    ensures { λ r. ⌜ r ≡ hourlyStands (length (now (part .entry))) x count ⌝ }
+// Of hour i, the power of one series less that of another, not below 0.
+pub(crate) fn net_at(part: &[u8], of: Series, taken: Series, i: usize) -> Tenths
+    requires { ⌜ Stands (now part) of (i + 1) × Stands (now part) taken (i + 1) × (i < 65536) ⌝ }
+    ensures { λ r. ⌜ (r .0 ≡ netIn (now (part .entry)) of taken i) × (r .0 ≤ mostWord) ⌝ }
 {
-    match x {
-        Hourly::Power(of) => stands(part, of, count),
-        Hourly::Net(of, taken) => stands(part, of, count) & stands(part, taken, count),
-    }
-}
-
-// What the part says of hour i.
-pub(crate) fn figure_at(part: &[u8], x: Hourly, i: usize) -> Tenths
-    requires { ⌜ HourlyStands (now part) x (i + 1) × (i < 65536) ⌝ }
-    ensures { λ r. ⌜ (r .0 ≡ hourlyIn (now (part .entry)) x i) × (r .0 ≤ mostWord) ⌝ }
-{
-    match x {
-        Hourly::Power(of) => Tenths::stated(power(part, of, i)),
-        Hourly::Net(of, taken) => {
-            Tenths::stated(power(part, of, i)).less(Tenths::stated(power(part, taken, i)))
-        }
-    }
+    Tenths::stated(power(part, of, i)).less(Tenths::stated(power(part, taken, i)))
 }

@@ -25,10 +25,9 @@ use Rattle.calendar.specs.Days.{dayOn}
 use Rattle.sheet.specs.Whole.{stretchIn}
 use Rattle.sheet.proofs.Whole.{stretch-whole}
 use Rattle.hours.specs.declared.k4.K4.{K4}
-use Rattle.hours.specs.declared.series.Hourly.{Hourly}
-use Rattle.hours.specs.Series.{stands, powerIn, hourlyStands}
+use Rattle.hours.specs.Series.{stands, powerIn}
 use Rattle.hours.specs.Sums.{k4In}
-use Rattle.hours.specs.Control.{averageIn}
+use Rattle.hours.specs.Control.{powerControl, averageOf}
 use Rattle.hours.proofs.Known.{average-known}
 use Rattle.producers.specs.Terms.{penaltyFrom}
 
@@ -80,15 +79,15 @@ module _ (l : Layout) (s : List ℕ) (p : ℕ) (fits : hoursAt l p + hoursWidth 
 
   -- k1.
   module _ (few : l .header .days ≤ 31) (from : 1 ≤ l .header .weekday) (to : l .header .weekday ≤ 7) (on : ℕ) (days : (d : ℕ) → dayOn on d ≡ tableDay (l .header) d) where
-    average : {of : HourSeries} {a : ℕ} → of ≡ hourSeries l → a ≡ averageIn hundredth part (Hourly.Power (of .outside)) (l .header .days) on
+    average : {of : HourSeries} {a : ℕ} → of ≡ hourSeries l → a ≡ averageOf hundredth (powerControl part (of .outside) (l .header .days) on)
         → a ≡ controlAverage hundredth (l .header) (producerUnder l s p .outsideUse)
     average hour is =
         is
-        ∙ ap (λ (x : HourSeries). averageIn hundredth part (Hourly.Power (x .outside)) (l .header .days) on) hour
-        ∙ average-known (l .header) few from to on days part (Hourly.Power (hourSeries l .outside)) (producerUnder l s p .outsideUse)
-        (unfold hourlyStands in standing (hourSeries l .outside) outside-spans) (read (hourSeries l .outside) outside-spans) hundredth
+        ∙ ap (λ (x : HourSeries). averageOf hundredth (powerControl part (x .outside) (l .header .days) on)) hour
+        ∙ average-known (l .header) few from to on days (powerIn part (hourSeries l .outside)) (producerUnder l s p .outsideUse)
+        (standing (hourSeries l .outside) outside-spans) (read (hourSeries l .outside) outside-spans) hundredth
 
-    pub k1-known : {of : HourSeries} {a r : ℕ} {x : Stated} (T : ℕ) → of ≡ hourSeries l → a ≡ averageIn hundredth part (Hourly.Power (of .outside)) (l .header .days) on → x ≡ statedOf s (producerAt l p)
+    pub k1-known : {of : HourSeries} {a r : ℕ} {x : Stated} (T : ℕ) → of ≡ hourSeries l → a ≡ averageOf hundredth (powerControl part (of .outside) (l .header .days) on) → x ≡ statedOf s (producerAt l p)
         → r ≡ millionthsOf (lessPenalty T (penaltyFrom a (x .deductible)))
         → r ≡ k1 (l .header) (producerUnder l s p) T
     unfolding k1 exactK1 penalty overuse

@@ -1,12 +1,10 @@
 use native.Mathlib.Omega.{arith}
-use mathlib.Core.Path.{_≡_, sym, ap, _∙_}
+use mathlib.Core.Path.{_≡_, sym, _∙_}
 use mathlib.Core.Logic.{⊎-elim}
 use Prim.Native.Nat.{_-_, _≤_, zero-le}
-use Rattle.units.specs.Sums.{tenths}
-use Rattle.units.proofs.Adding.{added-exact}
 use Rattle.hours.specs.Series.{powerIn}
 use Rattle.hours.proofs.Standing.{fewer}
-use Rattle.hours.proofs.Turns.{SoFar, none-yet, control-more, other-more, all-days}
+use Rattle.hours.proofs.Turns.{SoFar, none-yet, control-added, other-more, all-days}
 use borrow.Author.Needs.{needs}
 use Rattle.hours.proofs.control.by_power.Statement.{statement}
 use Rattle.hours.proofs.control.by_power.Tie as tie
@@ -46,8 +44,7 @@ loop-again c =
     let l = c .before .before .before .loop in
     let on = sym (c .before .is-on .ensures) in (
       ⊎-elim
-          (λ w. rw (w .3, w .4, ap tenths (w .2 .ensures ∙ added-exact _ _ (omega (arith, l .inv .0 .fits, l .inv .0 .few, w .1 .ensures .1))))
-          (control-more _ _ (l .inv .0) (on ∙ w .0 .taken) (w .1 .ensures .0) (w .1 .ensures .1)))
+          (λ w. rw (w .3, w .4) (control-added _ _ (l .inv .0) (omega arith) (on ∙ w .0 .taken) (w .1 .ensures .0) (w .1 .ensures .1) (w .2 .ensures)))
           (λ w. rw (w .1, w .2) (other-more _ _ (l .inv .0) (on ∙ w .0 .left)))
           (c .if1 .came),
       omega arith,

@@ -1,24 +1,21 @@
 use native.Mathlib.Omega.{arith}
-use mathlib.Core.Path.{_≡_, sym, _∙_}
-use Prim.Native.Nat.{_+_, _-_, _*_, _≤_, zero-le}
-use Rattle.rules.specs.Range.{sum}
-use Rattle.laws.proofs.Range.{sum-none, sum-fold, sum-done}
-use Rattle.laws.specs.Bounds.{mostWord}
-use Rattle.units.proofs.Adding.{added-exact}
+use mathlib.Core.Path.{_∙_}
+use Prim.Native.Nat.{_-_, _≤_, zero-le}
 use Rattle.hours.specs.Series.{powerIn}
 use Rattle.hours.proofs.Standing.{fewer}
+use Rattle.hours.proofs.Turns.{InEvening, no-hour-yet, hour-more, whole-evening}
 use borrow.Author.Needs.{needs}
 use Rattle.hours.proofs.control.evening_powers.Statement.{statement}
 use Rattle.hours.proofs.control.evening_powers.Tie as tie
 
 abbrev Inv-loop : tie.InvT-loop
-Inv-loop part x day total₀ i₀ total i = (total .0 ≡ sum (λ k. powerIn part x (24 * day + (17 + k))) i) × (total .0 ≤ mostWord * i) × (i ≤ 6)
+Inv-loop part x day total₀ i₀ total i = InEvening (powerIn part x) day i (total .0) × (i ≤ 6)
 
 abbrev μ-loop : tie.MeasureT-loop
 μ-loop part x day total₀ i₀ total i = 6 - i
 
 loop-holds : tie.Need-loop-holds Inv-loop μ-loop
-loop-holds c = (sym (sum-none _), zero-le, zero-le)
+loop-holds c = (no-hour-yet _ _, zero-le)
 
 mul-power : tie.Need-mul-power Inv-loop μ-loop
 mul-power c = search needs
@@ -46,19 +43,11 @@ loop-less c = search needs
 
 loop-again : tie.Need-loop-again Inv-loop μ-loop
 loop-again c =
-    let l = c .before .before .before .before .loop in
-    let power = c .before .before .power .ensures in
     let stated = c .before .stated .ensures in
-    let more = c .plus .ensures ∙ added-exact _ _ (omega (arith, stated .1)) in (
-      more ∙ sum-fold _ _ (l .inv .0) (stated .0 ∙ power),
-      omega (arith, more, stated .1),
-      omega arith,
-    )
+    (hour-more _ _ (c .before .before .before .before .loop .inv .0) (omega arith) (stated .0 ∙ c .before .before .power .ensures) (stated .1) (c .plus .ensures), omega arith)
 
 returns : tie.Need-returns Inv-loop μ-loop
-returns c =
-    let l = c .before .loop in
-    (sum-done _ (omega arith) (omega arith) (l .inv .0), omega (arith, l .inv .1))
+returns c = whole-evening _ _ (c .before .loop .inv .0) (omega arith) (omega arith)
 
 pub evening-powers-spec : {M : Type 1} → statement M
 evening-powers-spec =

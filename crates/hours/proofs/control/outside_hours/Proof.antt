@@ -1,5 +1,5 @@
-use mathlib.Core.Path.{_≡_, sym, ap, _∙_}
-use mathlib.Core.Bool.{Bool, true, false, _&&_}
+use mathlib.Core.Path.{_≡_, sym}
+use mathlib.Core.Bool.{true, false, _&&_}
 use mathlib.Core.List.{List}
 use Prim.Native.Nat.{ℕ, _*_, _%_, _≤_, _<_, zero-le}
 use lib.Dec.{eqb, leb}
@@ -10,10 +10,10 @@ use Rattle.rules.specs.Sheet.{series}
 use Rattle.laws.proofs.Range.{both}
 use Rattle.refusals_powers.specs.Powers.{highPowers}
 use Rattle.hours.specs.declared.control.Control.{Control}
-use Rattle.hours.specs.declared.series.Hourly.{Hourly}
-use Rattle.hours.specs.Series.{stands, hourlyStands, Stands, powerIn}
-use Rattle.hours.specs.Control.{controlOf, controlIn}
+use Rattle.hours.specs.Series.{stands, Stands, powerIn}
+use Rattle.hours.specs.Control.{controlOf}
 use Rattle.hours.proofs.Standing.{told, apart}
+use Rattle.hours.proofs.Turns.{counted-in, none-counted}
 use Rattle.hours.proofs.Evenings.{none-high}
 use borrow.Author.Needs.{needs}
 use Rattle.hours.proofs.control.outside_hours.Statement.{statement}
@@ -23,10 +23,6 @@ use Rattle.hours.proofs.control.outside_hours.Tie as tie
 module _ (part : List ℕ) (x : Series) (days : ℕ) (standing : (leb days 31 && stands (length part) x (24 * days)) ≡ true) where
   stand : Stands part x (24 * days) × (days ≤ 31)
   stand = let two = both (leb days 31) _ standing in (told part x (24 * days) (two .1), leb-true _ _ (two .0))
-
-  answered : (on : ℕ) {r : Control} → r ≡ controlOf (powerIn part x) on days → r ≡ controlIn part (Hourly.Power x) days on
-  unfolding controlIn hourlyStands
-  answered on e = rw standing e
 
 -- It is a column that begins with a power of the part.
 module _ (part : List ℕ) (x : Series) (days : ℕ) (column : (eqb (x .step) 4 && eqb (x .start % 4) 0) ≡ true) where
@@ -61,7 +57,7 @@ returns : tie.Need-returns
 returns c =
     let a = c .before .before .before .before .before .before .before .args in
     let r = c .by-column .ensures in
-    (answered _ _ _ (passed (c .before .before .before .before)) _ (as-column _ (a .x) _ (c .before .if2 .taken) _ (r .0)), (r .1, r .2))
+    (counted-in _ _ _ _ (passed (c .before .before .before .before)) (as-column _ (a .x) _ (c .before .if2 .taken) _ (r .0)), (r .1, r .2))
 
 by-power-requires : tie.Need-by-power-requires
 by-power-requires c κs = stand (c .before .before .before .before .before .before .args .part .now) _ _ (passed (c .before .before .before))
@@ -69,11 +65,10 @@ by-power-requires c κs = stand (c .before .before .before .before .before .befo
 returns-2 : tie.Need-returns-2
 returns-2 c =
     let r = c .by-power .ensures in
-    (answered _ _ _ (passed (c .before .before .before .before)) _ (r .0), (r .1, r .2))
+    (counted-in _ _ _ _ (passed (c .before .before .before .before)) (r .0), (r .1, r .2))
 
 returns-3 : tie.Need-returns-3
-unfolding controlIn hourlyStands
-returns-3 c = (rw (sym (c .before .stands .ensures), c .if1 .left), (zero-le, zero-le))
+returns-3 c = (none-counted _ _ _ _ (rw (sym (c .before .stands .ensures)) (c .if1 .left)), (zero-le, zero-le))
 
 pub outside-hours-spec : {M : Type 1} → statement M
 outside-hours-spec =

@@ -1,21 +1,19 @@
 use native.Mathlib.Omega.{arith}
-use mathlib.Core.Path.{_≡_, sym, ap, _∙_}
+use mathlib.Core.Path.{_≡_, sym, _∙_}
 use mathlib.Core.Logic.{⊎-elim}
 use Prim.Native.Nat.{_-_, _≤_, zero-le}
-use Rattle.units.specs.Sums.{tenths}
-use Rattle.units.proofs.Adding.{added-exact}
-use Rattle.hours.specs.Series.{hourlyIn}
-use Rattle.hours.proofs.Standing.{hourly-fewer}
-use Rattle.hours.proofs.Turns.{SoFar, none-yet, control-more, other-more, all-days}
+use Rattle.hours.specs.Series.{netIn}
+use Rattle.hours.proofs.Standing.{fewer}
+use Rattle.hours.proofs.Turns.{SoFar, none-yet, control-added, other-more, all-days}
 use borrow.Author.Needs.{needs}
-use Rattle.hours.proofs.control.by_day.Statement.{statement}
-use Rattle.hours.proofs.control.by_day.Tie as tie
+use Rattle.hours.proofs.control.by_net.Statement.{statement}
+use Rattle.hours.proofs.control.by_net.Tie as tie
 
 abbrev Inv-loop : tie.InvT-loop
-Inv-loop part x days control counted₀ count₀ day₀ counted count day = SoFar (hourlyIn part x) (control .on) day (counted .0) count × (day ≤ days)
+Inv-loop part of taken days control counted₀ count₀ day₀ counted count day = SoFar (netIn part of taken) (control .on) day (counted .0) count × (day ≤ days)
 
 abbrev μ-loop : tie.MeasureT-loop
-μ-loop part x days control counted₀ count₀ day₀ counted count day = days - day
+μ-loop part of taken days control counted₀ count₀ day₀ counted count day = days - day
 
 loop-holds : tie.Need-loop-holds Inv-loop μ-loop
 loop-holds c = (none-yet _ _, zero-le)
@@ -26,8 +24,11 @@ cast-is-on c = record { fits = omega arith }
 is-on-requires : tie.Need-is-on-requires Inv-loop μ-loop
 is-on-requires c κs = search needs
 
-evening-sum-requires : tie.Need-evening-sum-requires Inv-loop μ-loop
-evening-sum-requires c κs = (hourly-fewer (c .before .before .before .before .before .args .part .now) (c .before .before .before .before .before .args .x) (omega arith) (c .before .before .before .before .before .pre .0), omega arith)
+evening-net-requires : tie.Need-evening-net-requires Inv-loop μ-loop
+evening-net-requires c κs =
+    let a = c .before .before .before .before .before in
+    let part = a .args .part .now in
+    (fewer part (a .args .of) (omega arith) (a .pre .0), fewer part (a .args .taken) (omega arith) (a .pre .1), omega arith)
 
 plus-requires : tie.Need-plus-requires Inv-loop μ-loop
 plus-requires c κs = search needs
@@ -46,8 +47,7 @@ loop-again c =
     let l = c .before .before .before .loop in
     let on = sym (c .before .is-on .ensures) in (
       ⊎-elim
-          (λ w. rw (w .3, w .4, ap tenths (w .2 .ensures ∙ added-exact _ _ (omega (arith, l .inv .0 .fits, l .inv .0 .few, w .1 .ensures .1))))
-          (control-more _ _ (l .inv .0) (on ∙ w .0 .taken) (w .1 .ensures .0) (w .1 .ensures .1)))
+          (λ w. rw (w .3, w .4) (control-added _ _ (l .inv .0) (omega arith) (on ∙ w .0 .taken) (w .1 .ensures .0) (w .1 .ensures .1) (w .2 .ensures)))
           (λ w. rw (w .1, w .2) (other-more _ _ (l .inv .0) (on ∙ w .0 .left)))
           (c .if1 .came),
       omega arith,
@@ -60,8 +60,8 @@ returns c =
     let end : l .day ≡ a .args .days = omega arith in
     (all-days _ _ (rw end at (l .inv .0)), l .inv .0 .fits, omega (arith, l .inv .0 .few))
 
-pub by-day-spec : {M : Type 1} → statement M
-by-day-spec =
+pub by-net-spec : {M : Type 1} → statement M
+by-net-spec =
     tie.close
     (tie.spec
     Inv-loop
@@ -69,7 +69,7 @@ by-day-spec =
     loop-holds
     cast-is-on
     is-on-requires
-    evening-sum-requires
+    evening-net-requires
     plus-requires
     add-count
     add-day
