@@ -76,15 +76,21 @@ module _ (part : List ℕ) (days : ℕ) where
           let name : 96 * days + 4 * (j - 24 * days) ≡ 4 * j = omega (arith, past) in
           omega (arith, rw name at (possible .low (j - 24 * days) (omega (arith, past))))
 
-  -- S held to the ceiling serves powers within it.
-  pub held : (S least : ℕ) {k : K4} → least ≡ min S 100000 → PowersWithin part (2 * (24 * days))
-      → K4Before (powerIn part (series 0 4)) (powerIn part (series (4 * (24 * days)) 4)) least (24 * days) k
+  -- An S held to the ceiling serves powers within it, and one held below 65,536 serves low ones.
+  pub within-held : (S : ℕ) {held : ℕ} {k : K4} → held ≡ min S 100000 → PowersWithin part (2 * (24 * days))
+      → K4Before (powerIn part (series 0 4)) (powerIn part (series (4 * (24 * days)) 4)) held (24 * days) k
       → PowersWithin part (48 * days) × ColumnsSummed part days S k
-  held S least e within before =
+  within-held S e within before =
       let column : 4 * (24 * days) ≡ 96 * days = omega arith in
       let possible : (i : ℕ) → i < 24 * days → powerIn part (series (4 * (24 * days)) 4) i ≤ 100000
       = λ i l. let name : 4 * (24 * days) + 4 * i ≡ 4 * (24 * days + i) = omega arith in rw name (within (24 * days + i) (omega arith)) in
       (λ j l. within j (omega arith), rw column at (k4-held _ _ S 100000 (24 * days) possible (k4-for _ _ _ e before)))
+
+  pub low-held : (S : ℕ) {held lower : ℕ} {k : K4} → held ≡ min S 100000 → lower ≡ min held 65535 → LowHours part (96 * days) (12 * days)
+      → ColumnsSummed part days lower k → ColumnsSummed part days S k
+  low-held S {lower = lower} e f possible before =
+      let name : lower ≡ min S 65535 = omega arith in
+      k4-held _ _ S 65535 (24 * days) (λ i l. possible .low i (omega arith)) (k4-for _ _ _ name before)
 
   module _ (all : length part ≡ 3 * (96 * days)) {rest : List ℕ} (lent : rest ≡ take (length part - 192 * days) (drop (192 * days) part)) where
     third : highPowers rest ≡ highFrom part (192 * days) (24 * days)

@@ -53,7 +53,7 @@ fn is_column(x: Series, start: usize) -> bool
 }
 
 // k4's sums of a month of columns, right where no power of the part is above the ceiling. They are not called right where a working or a possible power
-// is. A month that begins with low powers is taken for a low one first.
+// is. A month that begins with low powers is taken for a low one first. An S above all powers is as one at the highest they may have.
 fn tried_sums(part: &[u8], days: u8, summed: Tenths) -> TriedSums
     requires { ⌜ (length (now part) ≡ 3 * (96 * days)) × (1 ≤ days) × (days ≤ 31) ⌝ }
     ensures { λ r. ⌜ (r .right ≡ true → PowersWithin (now (part .entry)) (48 * days)
@@ -61,16 +61,17 @@ fn tried_sums(part: &[u8], days: u8, summed: Tenths) -> TriedSums
     ensures { λ r. ⌜ (highPowers (now (part .entry)) ≡ false → r .right ≡ true) ⌝ }
 {
     let column = 96 * (days as usize);
+    let held = summed.smaller(Tenths(Tenths::CEILING));
     let first = word(part, 0);
     let second = word(part, column);
-    if (summed.0 <= 65535) & ((first <= 65535) & (second <= 65535)) {
-        let low = low_sums(part, days as usize, summed.0 as u16);
+    if (first <= 65535) & (second <= 65535) {
+        let lower = held.smaller(Tenths(65535));
+        let low = low_sums(part, days as usize, lower.0 as u16);
         if low.right {
             return low;
         }
     }
-    let least = summed.smaller(Tenths(Tenths::CEILING));
-    within_sums(part, 24 * (days as usize), least.0 as u32)
+    within_sums(part, 24 * (days as usize), held.0 as u32)
 }
 
 // Some power is above the ceiling; k4's sums where none is.
