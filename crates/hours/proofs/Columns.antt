@@ -17,10 +17,9 @@ use Rattle.laws.specs.Bounds.{mostWord}
 use Rattle.laws.proofs.Range.{both, any-none}
 use Rattle.refusals_powers.specs.Powers.{highPower, highFrom, highPowers}
 use Rattle.refusals_powers.proofs.Powers.{powers-more, part-high, each-within}
-use Rattle.units.specs.Sums.{tenths}
 use Rattle.hours.specs.declared.k4.K4.{K4}
 use Rattle.hours.specs.Series.{stands, powerIn}
-use Rattle.hours.specs.Sums.{K4Before, ColumnsSummed, k4In}
+use Rattle.hours.specs.Sums.{K4Before, ColumnsSummed, k4In, noSums}
 use Rattle.hours.specs.Low.{LowHours}
 use Rattle.hours.specs.Figures.{isColumn, inColumns, sumsBelow}
 use Rattle.hours.specs.Within.{PowersWithin}
@@ -119,7 +118,7 @@ module _ (part : List ℕ) (of : HourSeries) (days : ℕ) (columns : Columns (le
       let all = columns .all-bytes in
       (rw (columns .working-is, columns .possible-is, le-leb (0 + 4 * (24 * days) + 4) (length part + 4) (omega (arith, all)), le-leb (96 * days + 4 * (24 * days) + 4) (length part + 4) (omega (arith, all)), k .0, k .1), k .2, k .3)
 
-  pub columns-below : (high : Bool) {k : K4} → high ≡ highPowers part → (high ≡ true → k ≡ record { asked = tenths 0; met = tenths 0 })
+  pub columns-below : (high : Bool) {k : K4} → high ≡ highPowers part → (high ≡ true → k ≡ noSums)
       → (high ≡ false → ColumnsSummed part days S k)
       → (k ≡ sumsBelow part of days S) × (k .asked .0 ≤ mostWord * (24 * days)) × (k .met .0 ≤ mostWord * (24 * days))
   unfolding sumsBelow

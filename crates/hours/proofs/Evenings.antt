@@ -96,8 +96,8 @@ pub few-hours : {count day days : ℕ} → count ≤ 6 * day → day ≤ days �
 few-hours a b c = omega arith
 
 -- A column in a part without a power above the ceiling.
-pub none-high : (part : List ℕ) (start n : ℕ) → highPowers part ≡ false → start % 4 ≡ 0 → Stands part (series start 4) n → (i : ℕ) → i < n
+pub column-within : (part : List ℕ) (start n : ℕ) → highPowers part ≡ false → start % 4 ≡ 0 → Stands part (series start 4) n → (i : ℕ) → i < n
     → powerIn part (series start 4) i ≤ 100000
-none-high part start n none there stands i l =
+column-within part start n none there stands i l =
     let name : 4 * (start / 4 + i) ≡ start + 4 * i = omega arith in
     rw (← name) (each-within part none (start / 4 + i) (omega (arith, stands)))

@@ -14,7 +14,7 @@ use Rattle.units.proofs.Adding.{added-exact}
 use Rattle.calendar.specs.Days.{dayOn}
 use Rattle.hours.specs.declared.k4.K4.{K4}
 use Rattle.hours.specs.declared.control.Control.{Control}
-use Rattle.hours.specs.Sums.{K4Before}
+use Rattle.hours.specs.Sums.{K4Before, noSums}
 use Rattle.hours.specs.Control.{controlOf, controlIn}
 
 -- The sums of the hours before one number are those before another name of it.
@@ -26,7 +26,7 @@ pub k4-for : (working possible : ℕ → ℕ) (n : ℕ) {S S′ : ℕ} {k : K4} 
 k4-for working possible n e x = rw (sym e) x
 
 -- No hours have no sums.
-pub none-summed : (working possible : ℕ → ℕ) (S : ℕ) → K4Before working possible S 0 (record { asked = tenths 0; met = tenths 0 })
+pub none-summed : (working possible : ℕ → ℕ) (S : ℕ) → K4Before working possible S 0 noSums
 none-summed working possible S = (sym (sum-none _), sym (sum-none _), zero-le, zero-le)
 
 -- The first hours of an evening: the sum of them.

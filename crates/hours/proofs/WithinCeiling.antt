@@ -14,7 +14,7 @@ use Rattle.laws.proofs.Range.{sum-more, sum-same, sum-le, or-left, or-right}
 use Rattle.refusals_powers.proofs.Told.{inner-some, or-three}
 use Rattle.hours.specs.declared.k4.K4.{K4}
 use Rattle.hours.specs.Sums.{askedOf, K4Before}
-use Rattle.hours.specs.Within.{PowersWithin, lowWord, counted, readAt, toldHigh, highRead, countedSum}
+use Rattle.hours.specs.Within.{PowersWithin, wordOf, lowWord, underCeiling, readAt, toldHigh, readTold, sumUnder}
 use Rattle.hours.proofs.LowPowers.{four-bytes, Bytes}
 
 -- Two numbers of 32 bits have the highest bit together where both have it.
@@ -45,9 +45,6 @@ nothing-told = refl
 abbrev powerOf : ℕ → ℕ → ℕ → ℕ → ℕ
 powerOf a b c d = ((a * 256 + b) * 256 + c) * 256 + d
 
-abbrev wordOf : ℕ → ℕ → ℕ → ℕ → ℕ
-wordOf b c d e = b + c * 256 + d * 65536 + e * 16777216
-
 module _ (a b c d e : ℕ) (lb : b ≤ 255) (lc : c ≤ 255) (ld : d ≤ 255) (le : e ≤ 255) where
   third : wordOf b c d e / 256 % 256 ≡ c
   third = omega arith
@@ -70,16 +67,16 @@ module _ (a b c d e : ℕ) (lb : b ≤ 255) (lc : c ≤ 255) (ld : d ≤ 255) (l
   from-word : (v : ℕ) → v % 256 ≡ d → (v % 256 + wordOf b c d e / 256 % 256 * 256) + wordOf b c d e % 2 * 65536 ≡ powerOf a b c d % 131072
   from-word v last = rw (last, third, odd, seventeen)
 
-  within-told : powerOf a b c d ≤ 100000 → e ≡ 0 → toldHigh (counted (powerOf a b c d % 131072)) (wordOf b c d e) ≡ false
+  within-told : powerOf a b c d ≤ 100000 → e ≡ 0 → toldHigh (underCeiling (powerOf a b c d % 131072)) (wordOf b c d e) ≡ false
   unfolding toldHigh
   within-told few none =
-      rw (le-ltb (counted (powerOf a b c d % 131072)) 2147483648 (omega arith), half, after, le-ltb 0 (b / 2) (omega arith), le-ltb 0 e (omega arith))
+      rw (le-ltb (underCeiling (powerOf a b c d % 131072)) 2147483648 (omega arith), half, after, le-ltb 0 (b / 2) (omega arith), le-ltb 0 e (omega arith))
 
-  told-within : toldHigh (counted (powerOf a b c d % 131072)) (wordOf b c d e) ≡ false → a ≡ 0 → (powerOf a b c d ≤ 100000) × (e ≡ 0)
+  told-within : toldHigh (underCeiling (powerOf a b c d % 131072)) (wordOf b c d e) ≡ false → a ≡ 0 → (powerOf a b c d ≤ 100000) × (e ≡ 0)
   unfolding toldHigh
   told-within told first =
-      let under = ltb-false (counted (powerOf a b c d % 131072)) 2147483648 (or-left _ _ told) in
-      let bits = or-right (ltb (counted (powerOf a b c d % 131072)) 2147483648) _ told in
+      let under = ltb-false (underCeiling (powerOf a b c d % 131072)) 2147483648 (or-left _ _ told) in
+      let bits = or-right (ltb (underCeiling (powerOf a b c d % 131072)) 2147483648) _ told in
       let low : b / 2 ≤ 0 = rw (← half) (ltb-false 0 (wordOf b c d e / 2 % 128) (or-left _ _ bits)) in
       let last : e ≤ 0 = rw (← after) (ltb-false 0 (wordOf b c d e / 16777216 % 256) (or-right (ltb 0 (wordOf b c d e / 2 % 128)) _ bits)) in
       (omega (arith, seventeen, under), omega arith)
@@ -115,16 +112,16 @@ module _ (s : List ℕ) (bytes : Bytes s) (at : ℕ) where
 
 -- The first powers of a part are within the ceiling where nothing else is read; and nothing else is read where one power more is too.
 module _ (part : List ℕ) (bytes : Bytes part) where
-  no-first : (n : ℕ) → getD part 0 0 ≡ 0 → ((j : ℕ) → j < n → highRead part j ≡ false) → (j : ℕ) → j ≤ n → getD part (4 * j) 0 ≡ 0
+  no-first : (n : ℕ) → getD part 0 0 ≡ 0 → ((j : ℕ) → j < n → readTold part j ≡ false) → (j : ℕ) → j ≤ n → getD part (4 * j) 0 ≡ 0
   no-first n first none zero l = first
   no-first n first none (suc j) l =
       let name : 4 * suc j ≡ 4 * j + 4 = omega arith in
       rw name (read-within part bytes (4 * j) (none j (omega arith)) (no-first n first none j (omega arith)) .1)
 
-  pub all-within : (n : ℕ) → getD part 0 0 ≡ 0 → ((j : ℕ) → j < n → highRead part j ≡ false) → PowersWithin part n
+  pub all-within : (n : ℕ) → getD part 0 0 ≡ 0 → ((j : ℕ) → j < n → readTold part j ≡ false) → PowersWithin part n
   all-within n first none j l = read-within part bytes (4 * j) (none j l) (no-first n first none j (omega arith)) .0
 
-  pub none-read : (n : ℕ) → PowersWithin part (n + 1) → (j : ℕ) → j < n → highRead part j ≡ false
+  pub none-read : (n : ℕ) → PowersWithin part (n + 1) → (j : ℕ) → j < n → readTold part j ≡ false
   none-read n within j l =
       let name : 4 * (j + 1) ≡ 4 * j + 4 = omega arith in
       none-told part bytes (4 * j) (within j (omega arith)) (rw (← name) (first (j + 1) (omega arith)))
@@ -133,11 +130,11 @@ module _ (part : List ℕ) (bytes : Bytes part) where
       first i b = omega (arith, four-bytes part (4 * i), within i b)
 
 -- A sum over hours, each less 100,001: with one more, and in all.
-pub counted-more : (f : ℕ → ℕ) (i : ℕ) {acc v : ℕ} → acc ≡ countedSum f i → v ≡ f i + 4294867295 → (acc + v) % 4294967296 ≡ countedSum f (i + 1)
-counted-more f i e g = rw (sum-more f i) (omega (arith, e, g))
+pub under-more : (f : ℕ → ℕ) (i : ℕ) {acc v : ℕ} → acc ≡ sumUnder f i → v ≡ f i + 4294867295 → (acc + v) % 4294967296 ≡ sumUnder f (i + 1)
+under-more f i e g = rw (sum-more f i) (omega (arith, e, g))
 
-pub counted-all : (f : ℕ → ℕ) (n : ℕ) {acc : ℕ} → n ≤ 744 → ((i : ℕ) → i < n → f i ≤ 100000) → acc ≡ countedSum f n → (acc + 100001 * n) % 4294967296 ≡ sum f n
-counted-all f n few within e = omega (arith, e, sum-le f 100000 n within)
+pub under-all : (f : ℕ → ℕ) (n : ℕ) {acc : ℕ} → n ≤ 744 → ((i : ℕ) → i < n → f i ≤ 100000) → acc ≡ sumUnder f n → (acc + 100001 * n) % 4294967296 ≡ sum f n
+under-all f n few within e = omega (arith, e, sum-le f 100000 n within)
 
 -- An S above a bound of every possible power is as one at it.
 pub k4-held : (working possible : ℕ → ℕ) (S bound n : ℕ) {k : K4} → ((i : ℕ) → i < n → possible i ≤ bound)

@@ -16,13 +16,13 @@ use Rattle.hours.specs.declared.within.Read.{Read}
 use Rattle.hours.specs.declared.within.Within.{Within}
 use Rattle.hours.specs.Series.{powerIn}
 use Rattle.hours.specs.Sums.{askedOf, metOf, K4Before}
-use Rattle.hours.specs.Within.{PowersWithin, counted, readAt, toldHigh, highRead, highHour, WithinBefore}
+use Rattle.hours.specs.Within.{PowersWithin, underCeiling, readAt, toldHigh, readTold, hourTold, WithinBefore}
 use Rattle.hours.proofs.LowPowers.{Bytes}
-use Rattle.hours.proofs.WithinCeiling.{told-joined, nothing-told, all-within, none-read, counted-more, counted-all}
+use Rattle.hours.proofs.WithinCeiling.{told-joined, nothing-told, all-within, none-read, under-more, under-all}
 
--- A power within the ceiling as it is counted, and the smaller of two.
-as-counted : (x : ℕ) → x ≤ 100000 → counted (x % 131072) ≡ x + 4294867295
-as-counted x few = omega arith
+-- A power within the ceiling, less 100,001.
+as-under : (x : ℕ) → x ≤ 100000 → underCeiling (x % 131072) ≡ x + 4294867295
+as-under x few = omega arith
 
 module _ (part : List ℕ) (hours S : ℕ) where
   abbrev working : ℕ → ℕ
@@ -59,30 +59,30 @@ module _ (part : List ℕ) (hours S : ℕ) where
       (m-is : 2147483648 ≤ S + 4294867295 → 2147483648 ≤ p .under → m ≡ min (S + 4294867295) (p .under))
       (met-is : 2147483648 ≤ m → 2147483648 ≤ w .under → met ≡ min m (w .under))
       {asked all-met : ℕ} (asked-sum : asked ≡ (k .asked + m) % 4294967296) (met-sum : all-met ≡ (k .met + met) % 4294967296) where
-    possible-counted : PowersWithin part (hours + (i + 1)) → p .under ≡ possible i + 4294867295
-    possible-counted within = ap (λ (r : Read). r .under) p-is ∙ as-counted (possible i) (possible-few i within)
+    possible-under : PowersWithin part (hours + (i + 1)) → p .under ≡ possible i + 4294867295
+    possible-under within = ap (λ (r : Read). r .under) p-is ∙ as-under (possible i) (possible-few i within)
 
-    working-counted : PowersWithin part (hours + (i + 1)) → w .under ≡ working i + 4294867295
-    working-counted within =
+    working-under : PowersWithin part (hours + (i + 1)) → w .under ≡ working i + 4294867295
+    working-under within =
         let name : 0 + 4 * i ≡ 4 * i = omega arith in
         ap (λ (r : Read). r .under) w-is
-        ∙ as-counted (bigEndian 4 part (4 * i)) (within i (omega arith))
+        ∙ as-under (bigEndian 4 part (4 * i)) (within i (omega arith))
         ∙ ap (λ (n : ℕ). bigEndian 4 part n + 4294867295) (sym name)
 
     asked-now : PowersWithin part (hours + (i + 1)) → m ≡ askedOf possible S i + 4294867295
     asked-now within =
-        let p = possible-counted within in
+        let p = possible-under within in
         let m = m-is (omega arith) (omega (arith, p)) in
         omega (arith, p, m)
 
     met-now : PowersWithin part (hours + (i + 1)) → met ≡ metOf working possible S i + 4294867295
     met-now within =
         let m = asked-now within in
-        let w = working-counted within in
+        let w = working-under within in
         let met = met-is (omega (arith, m)) (omega (arith, w)) in
         omega (arith, m, w, met)
 
-    told-now : toldHigh (bitAnd (p .under) (w .under)) (bitOr (p .word) (w .word)) ≡ highHour part hours i
+    told-now : toldHigh (bitAnd (p .under) (w .under)) (bitOr (p .word) (w .word)) ≡ hourTold part hours i
     told-now =
         let name : 4 * hours + 4 * i ≡ 4 * (hours + i) = omega arith in
         let p-fits = ap (λ (r : Read). r .under) p-is in
@@ -101,9 +101,9 @@ module _ (part : List ℕ) (hours S : ℕ) where
           told =
               told-joined (k .under) (bitAnd (p .under) (w .under)) (k .words) (bitOr (p .word) (w .word)) fits
               (omega (arith, and-le-l (p .under) (w .under), ap (λ (r : Read). r .under) p-is))
-              ∙ any-fold (highHour part hours) i (before .told) told-now;
-          asked-is = λ within. asked-sum ∙ counted-more (askedOf possible S) i (before .asked-is (fewer (omega arith) within)) (asked-now within);
-          met-is = λ within. met-sum ∙ counted-more (metOf working possible S) i (before .met-is (fewer (omega arith) within)) (met-now within);
+              ∙ any-fold (hourTold part hours) i (before .told) told-now;
+          asked-is = λ within. asked-sum ∙ under-more (askedOf possible S) i (before .asked-is (fewer (omega arith) within)) (asked-now within);
+          met-is = λ within. met-sum ∙ under-more (metOf working possible S) i (before .met-is (fewer (omega arith) within)) (met-now within);
         }
 
   -- After the last hour.
@@ -111,29 +111,29 @@ module _ (part : List ℕ) (hours S : ℕ) where
     pub told-all : getD part 0 0 ≡ 0 → toldHigh (k .under) (k .words) ≡ false → PowersWithin part (2 * hours)
     told-all first told = all-within part bytes (2 * hours) first each
       where
-        none : (i : ℕ) → i < hours → highHour part hours i ≡ false
-        none = any-clear (highHour part hours) hours (sym (all .told) ∙ told)
+        none : (i : ℕ) → i < hours → hourTold part hours i ≡ false
+        none = any-clear (hourTold part hours) hours (sym (all .told) ∙ told)
 
-        each : (j : ℕ) → j < 2 * hours → highRead part j ≡ false
+        each : (j : ℕ) → j < 2 * hours → readTold part j ≡ false
         each j l = go (ltb j hours) refl
           where
-            go : (b : Bool) → ltb j hours ≡ b → highRead part j ≡ false
-            go true e = or-right (highRead part (hours + j)) (highRead part j) (none j (ltb-true j hours e))
+            go : (b : Bool) → ltb j hours ≡ b → readTold part j ≡ false
+            go true e = or-right (readTold part (hours + j)) (readTold part j) (none j (ltb-true j hours e))
             go false e =
                 let past = ltb-false j hours e in
                 let name : hours + (j - hours) ≡ j = omega (arith, past) in
-                rw name at (or-left (highRead part (hours + (j - hours))) (highRead part (j - hours)) (none (j - hours) (omega (arith, past))))
+                rw name at (or-left (readTold part (hours + (j - hours))) (readTold part (j - hours)) (none (j - hours) (omega (arith, past))))
 
     pub none-all : PowersWithin part (2 * hours + 1) → toldHigh (k .under) (k .words) ≡ false
     none-all within =
         let none = none-read part bytes (2 * hours) within in
-        all .told ∙ any-none (highHour part hours) hours (λ i l. rw (none (hours + i) (omega arith), none i (omega arith)))
+        all .told ∙ any-none (hourTold part hours) hours (λ i l. rw (none (hours + i) (omega arith), none i (omega arith)))
 
     pub sums-all : S ≤ 100000 → hours ≤ 744 → PowersWithin part (2 * hours)
         → K4Before working possible S hours (record { asked = tenths ((k .asked + 100001 * hours) % 4294967296); met = tenths ((k .met + 100001 * hours) % 4294967296) })
     sums-all few short within =
         let all-hours : hours + hours ≡ 2 * hours = omega arith in
         let to-all : PowersWithin part (hours + hours) = rw all-hours within in
-        let asked = counted-all (askedOf possible S) hours short (λ i l. omega arith) (all .asked-is to-all) in
-        let met = counted-all (metOf working possible S) hours short (λ i l. omega arith) (all .met-is to-all) in
+        let asked = under-all (askedOf possible S) hours short (λ i l. omega arith) (all .asked-is to-all) in
+        let met = under-all (metOf working possible S) hours short (λ i l. omega arith) (all .met-is to-all) in
         (asked, met, omega (arith, asked, sum-le (askedOf possible S) 100000 hours (λ i l. omega arith)), omega (arith, met, sum-le (metOf working possible S) 100000 hours (λ i l. omega arith)))

@@ -1,16 +1,16 @@
 -- What a settlement takes from a producer's hours.
 use Prim.Native.Nat.{ℕ, _*_}
-use mathlib.Core.Bool.{Bool, true, false, cond, _&&_}
+use mathlib.Core.Bool.{Bool, cond, _&&_}
 use mathlib.Core.List.{List}
 use lib.Dec.{eqb, leb}
 use Rattle.rules.specs.declared.Series.{Series}
 use Rattle.rules.specs.declared.HourSeries.{HourSeries}
 use Rattle.rules.specs.Units.{hundredth}
-use Rattle.units.specs.Sums.{tenths, hundredths}
+use Rattle.units.specs.Sums.{hundredths}
 use Rattle.refusals_powers.specs.Powers.{highPowers}
 use Rattle.hours.specs.declared.figures.HourFigures.{HourFigures}
 use Rattle.hours.specs.declared.k4.K4.{K4}
-use Rattle.hours.specs.Sums.{k4In}
+use Rattle.hours.specs.Sums.{k4In, noSums}
 use Rattle.hours.specs.Control.{powerControl, averageOf}
 
 -- Powers one after the other from a place on.
@@ -28,7 +28,7 @@ inColumns bytes of days =
 unfoldable pub sumsBelow : List ℕ → HourSeries → ℕ → ℕ → K4
 sumsBelow part of days S =
     cond (highPowers part)
-    (record { asked = tenths 0; met = tenths 0 })
+    noSums
     (k4In part (of .working) (of .possible) days S)
 
 -- With them the control average of outside use in hundredths. Of hours with a power above the ceiling there is nothing but that.

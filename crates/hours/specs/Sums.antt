@@ -31,6 +31,10 @@ K4Before working possible S n k =
 abbrev pub ColumnsSummed : List ℕ → ℕ → ℕ → K4 → Type 0
 ColumnsSummed part days S k = K4Before (powerIn part (series 0 4)) (powerIn part (series (96 * days) 4)) S (24 * days) k
 
+-- Of no hours.
+abbrev pub noSums : K4
+noSums = record { asked = tenths 0; met = tenths 0 }
+
 -- The sum of m over n hours, and the sum of what is met of it.
 abbrev pub k4Of : (ℕ → ℕ) → (ℕ → ℕ) → ℕ → ℕ → K4
 k4Of working possible S n =
@@ -41,4 +45,4 @@ unfoldable pub k4In : List ℕ → Series → Series → ℕ → ℕ → K4
 k4In part working possible days S =
     cond (stands (length part) working (24 * days) && stands (length part) possible (24 * days))
     (k4Of (powerIn part working) (powerIn part possible) S (24 * days))
-    (record { asked = tenths 0; met = tenths 0 })
+    noSums

@@ -120,8 +120,8 @@ fn by_column(part: &[u8], start: u16, days: u8, control: ControlDays) -> Control
     }
 }
 
-// The control hours of a series in a part without a power above the ceiling. Nothing is counted where the part ends before the powers do, or in a month of
-// more than 31 days.
+// The control hours of a series in a part without a power above the ceiling; a column has none either if it begins with a power of the part. Nothing is
+// counted where the part ends before the powers do, or in a month of more than 31 days.
 fn outside_hours(part: &[u8], x: Series, days: u8, control: ControlDays) -> Control
     requires { ⌜ highPowers (now part) ≡ false ⌝ }
     ensures { λ r. ⌜ r ≡ powerControl (now (part .entry)) x days (control .on) ⌝ }
@@ -182,7 +182,8 @@ fn by_net(part: &[u8], of: Series, taken: Series, days: u8, control: ControlDays
     Control { counted, count }
 }
 
-// The same of one series less another, however high their powers are.
+// The control hours of one series less another, however high their powers are. Nothing is counted where the part ends before the powers do, or in a month
+// of more than 31 days.
 fn net_hours(part: &[u8], of: Series, taken: Series, days: u8, control: ControlDays) -> Control
     ensures { λ r. ⌜ r ≡ netControl (now (part .entry)) of taken days (control .on) ⌝ }
     ensures fits { λ r. ⌜ (r .counted .0 ≤ mostWord * r .count) × (r .count ≤ 186) ⌝ }
@@ -197,7 +198,7 @@ fn net_hours(part: &[u8], of: Series, taken: Series, days: u8, control: ControlD
     }
 }
 
-// Their control average to a tenth; 0 where nothing is counted.
+// The control average of one series less another, to a tenth; 0 where nothing is counted.
 pub fn net_average_to_tenth(
     part: &[u8],
     of: Series,

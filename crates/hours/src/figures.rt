@@ -6,14 +6,14 @@ ghost use Prim.Native.Nat.{_*_, _≤_};
 ghost use lib.ListN.{length};
 ghost use Rattle.laws.specs.Bounds.{mostWord};
 ghost use Rattle.refusals_powers.specs.Powers.{highPowers};
-ghost use Rattle.units.specs.Sums.{tenths};
-ghost use Rattle.hours.specs.Sums.{ColumnsSummed};
+ghost use Rattle.hours.specs.Sums.{ColumnsSummed, noSums};
 ghost use Rattle.hours.specs.Within.{PowersWithin};
 ghost use Rattle.hours.specs.Figures.{isColumn, inColumns, sumsBelow, hourFigures};
 use crate::control::outside_average;
 use crate::k4::K4;
 use crate::k4::TriedSums;
 use crate::k4::k4_sums;
+use crate::k4::no_sums;
 use crate::low::low_sums;
 use crate::within::within_sums;
 use calendar::ControlDays;
@@ -82,15 +82,11 @@ struct MonthSums {
 
 // Of a month with a power above the ceiling.
 fn high_month() -> MonthSums
-    ensures { λ r. ⌜ r ≡ record { high = true; sums = record { asked = tenths 0; met = tenths 0 } } ⌝ }
+    ensures { λ r. ⌜ r ≡ record { high = true; sums = noSums } ⌝ }
 {
-    let none = K4 {
-        asked: Tenths(0),
-        met: Tenths(0),
-    };
     MonthSums {
         high: true,
-        sums: none,
+        sums: no_sums(),
     }
 }
 
@@ -98,7 +94,7 @@ fn high_month() -> MonthSums
 fn column_sums(part: &[u8], days: u8, summed: Tenths) -> MonthSums
     requires { ⌜ (length (now part) ≡ 3 * (96 * days)) × (1 ≤ days) × (days ≤ 31) ⌝ }
     ensures { λ r. ⌜ r .high ≡ highPowers (now (part .entry)) ⌝ }
-    ensures { λ r. ⌜ (r .high ≡ true → r .sums ≡ record { asked = tenths 0; met = tenths 0 })
+    ensures { λ r. ⌜ (r .high ≡ true → r .sums ≡ noSums)
         × (r .high ≡ false
         → ColumnsSummed (now (part .entry)) days (summed .0) (r .sums)) ⌝ }
 {

@@ -14,8 +14,8 @@ use crate::k4::K4;
 use crate::k4::TriedSums;
 use units::Tenths;
 
-// What eight lanes hold: the sums of what was cut off S and of what was not met of m, which past 65,535 begin again at 0, the sums of their upper bytes,
-// and the bits of all pairs that were read from the first half of the month and from the second.
+// What eight lanes hold: the sums of what was cut off S and of what was not met of m, which past 65,535 begin again at 0, each with the sums of its upper
+// bytes (upper, over), and the bits of all pairs that were read from the first half of the month and from the second.
 struct Lanes {
     cut: [u16; 8],
     upper: [u16; 8],
@@ -147,7 +147,7 @@ fn lanes_sum(left: [u16; 8], upper: [u16; 8]) -> u64
     sum
 }
 
-// No power was read that is not low: no bit in the pairs that are first two bytes.
+// True only if no power was read that is not low: there is no bit in the pairs that are first two bytes.
 fn is_clear(near: [u16; 8], far: [u16; 8]) -> bool
     ensures { λ r. ⌜ (r ≡ true → Clear near far) ⌝ }
 {
@@ -160,7 +160,7 @@ fn is_clear(near: [u16; 8], far: [u16; 8]) -> bool
     fronts == 0
 }
 
-// k4's sums of a month of so many days whose first powers are low, right where all are.
+// k4's sums of a month of so many days whose first powers are low. They are called right only if all are; that they then are is a matter of speed.
 pub(crate) fn low_sums(part: &[u8], days: usize, summed: u16) -> TriedSums
     requires { ⌜ (192 * days ≤ length (now part)) × (1 ≤ days) × (days ≤ 31) ⌝ }
     requires { ⌜ (bigEndian 4 (now part) 0 ≤ 65535) × (bigEndian 4 (now part) (96 * days) ≤ 65535) ⌝ }

@@ -14,7 +14,7 @@ use Rattle.hours.specs.Series.{stands, Stands, powerIn}
 use Rattle.hours.specs.Control.{controlOf}
 use Rattle.hours.proofs.Standing.{told, apart}
 use Rattle.hours.proofs.Turns.{counted-in, none-counted}
-use Rattle.hours.proofs.Evenings.{none-high}
+use Rattle.hours.proofs.Evenings.{column-within}
 use borrow.Author.Needs.{needs}
 use Rattle.hours.proofs.control.outside_hours.Statement.{statement}
 use Rattle.hours.proofs.control.outside_hours.Tie as tie
@@ -33,7 +33,7 @@ module _ (part : List ℕ) (x : Series) (days : ℕ) (column : (eqb (x .step) 4 
       → (Stands part (series (x .start) 4) (24 * days) × (days ≤ 31)) × ((i : ℕ) → i < 24 * days → powerIn part (series (x .start) 4) i ≤ 100000)
   asked none two =
       let s = rw is-column at (two .0) in
-      ((s, two .1), none-high part (x .start) (24 * days) none (eqb-true _ _ (both (eqb (x .step) 4) _ column .1)) s)
+      ((s, two .1), column-within part (x .start) (24 * days) none (eqb-true _ _ (both (eqb (x .step) 4) _ column .1)) s)
 
   as-column : (on : ℕ) {r : Control} → r ≡ controlOf (powerIn part (series (x .start) 4)) on days → r ≡ controlOf (powerIn part x) on days
   as-column on e = rw is-column e

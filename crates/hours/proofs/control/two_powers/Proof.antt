@@ -1,7 +1,3 @@
-use mathlib.Core.Path.{_≡_, ap₂}
-use Prim.Native.Nat.{ℕ, _+_, _*_}
-use lib.Bits.{bitOr}
-use Rattle.hours.specs.Control.{Twos}
 use Rattle.hours.proofs.Evenings.{two-read}
 use borrow.Author.Needs.{needs}
 use Rattle.hours.proofs.control.two_powers.Statement.{statement}

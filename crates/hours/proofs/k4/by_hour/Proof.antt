@@ -1,5 +1,5 @@
 use native.Mathlib.Omega.{arith}
-use Rattle.hours.proofs.Turns.{k4-same, none-summed}
+use Rattle.hours.proofs.Turns.{k4-same}
 use borrow.Author.Needs.{needs}
 use Rattle.hours.proofs.k4.by_hour.Statement.{statement}
 use Rattle.hours.proofs.k4.by_hour.Tie as tie
@@ -8,7 +8,7 @@ mul-through-hours : tie.Need-mul-through-hours
 mul-through-hours c = search needs
 
 through-hours-requires : tie.Need-through-hours-requires
-through-hours-requires c κs = ((omega (arith, c .before .pre .0), omega (arith, c .before .pre .1), omega arith), none-summed _ _ _)
+through-hours-requires c κs = (omega (arith, c .before .pre .0), omega (arith, c .before .pre .1), omega arith)
 
 returns : tie.Need-returns
 returns c = k4-same _ _ _ (omega arith) (c .through-hours .ensures)

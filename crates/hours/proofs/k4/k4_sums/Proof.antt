@@ -14,7 +14,7 @@ use Rattle.hours.specs.declared.k4.K4.{K4}
 use Rattle.hours.specs.Series.{stands, Stands, powerIn}
 use Rattle.hours.specs.Sums.{K4Before, k4In}
 use Rattle.hours.proofs.Standing.{told, apart}
-use Rattle.hours.proofs.Turns.{k4-same, none-summed}
+use Rattle.hours.proofs.Turns.{k4-same}
 use borrow.Author.Needs.{needs}
 use Rattle.hours.proofs.k4.k4_sums.Statement.{statement}
 use Rattle.hours.proofs.k4.k4_sums.Tie as tie
@@ -57,11 +57,16 @@ stands-requires c κs = search needs
 stands-requires-2 : tie.Need-stands-requires-2
 stands-requires-2 c κs = search needs
 
+no-sums-requires : tie.Need-no-sums-requires
+no-sums-requires c κs = search needs
+
 returns : tie.Need-returns
 unfolding k4In
 returns c =
-    let none = not-true (c .before .before .stands .result && c .before .stands2 .result) (c .if1 .taken) in
-    (rw (sym (c .before .before .stands .ensures), sym (c .before .stands2 .ensures), none), (zero-le, zero-le))
+    let one = c .before .before .before .stands in
+    let other = c .before .before .stands2 in
+    let none = not-true (one .result && other .result) (c .before .if1 .taken) in
+    rw (c .no-sums .ensures) (rw (sym (one .ensures), sym (other .ensures), none), (zero-le, zero-le))
 
 by-hour-requires : tie.Need-by-hour-requires
 by-hour-requires c κs =
@@ -78,7 +83,7 @@ through-hours-requires : tie.Need-through-hours-requires
 through-hours-requires c κs =
     let a = c .before .before .before .before .before .before .before .args in
     let two = stand (a .part .now) (a .working) (a .possible) (a .days) 0 (standing (c .before .before .before)) in
-    ((omega (arith, two .0), omega (arith, two .1), omega arith), none-summed _ _ _)
+    (omega (arith, two .0), omega (arith, two .1), omega arith)
 
 returns-3 : tie.Need-returns-3
 returns-3 c = all-hours _ _ _ _ _ (standing (c .before .before .before .before)) (k4-same _ _ _ (omega arith) (c .through-hours .ensures))
@@ -90,6 +95,7 @@ k4-sums-spec =
     mul-hours
     stands-requires
     stands-requires-2
+    no-sums-requires
     returns
     by-hour-requires
     returns-2
