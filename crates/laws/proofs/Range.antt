@@ -1,6 +1,6 @@
 -- Laws of sums and tests over a range, each once. Assumes nothing.
 use mathlib.Core.Path.{_≡_, refl, sym, ap, _∙_}
-use mathlib.Core.Bool.{Bool, true, false, _&&_, _||_, or-true, or-false, or-assoc, true≢false}
+use mathlib.Core.Bool.{Bool, true, false, not, cond, _&&_, _||_, or-true, or-false, or-assoc, true≢false}
 use mathlib.Core.Logic.{⊎-elim}
 use Prim.Native.Nat.{ℕ, zero, suc, zero-le, _+_, _*_, _≤_, _<_}
 use native.Mathlib.Nat.{mul-comm, le-refl, le-antisymm, le-of-eq, suc-mul, eq-or-lt-of-le, le-of-suc-le-suc}
@@ -74,6 +74,60 @@ when-le true v = le-refl v
 when-le false v = zero-le
 
 -- Two tests hold, so the one and the other.
+pub when-both : (a b : Bool) (v : ℕ) → when (a && b) v ≡ when a (when b v)
+unfolding when
+when-both true b v = refl
+when-both false b v = refl
+
+pub when-split : (a b : Bool) (v : ℕ) → when a v ≡ when (a && b) v + when (a && not b) v
+unfolding when
+when-split true true v = omega arith
+when-split true false v = omega arith
+when-split false b v = refl
+
+-- Where one place alone passes a test, the sum over the places that pass it is what that place has.
+module _ (test : ℕ → Bool) where
+  abbrev passed : ℕ → ℕ
+  passed n = sum (λ i. when (test i) 1) n
+
+  -- A place that passes is one; the last is the one, or an earlier is and the last does not pass.
+  one-passed : (i n : ℕ) → i < n → test i ≡ true → 1 ≤ passed n
+  unfolding sum when
+  one-passed i zero l t = absurd (omega arith)
+  one-passed i (suc n) l t = ⊎-elim this (λ b. earlier (one-passed i n b t)) (eq-or-lt-of-le (le-of-suc-le-suc l))
+    where
+      this : i ≡ n → 1 ≤ passed n + cond (test n) 1 0
+      this e = let s : test n ≡ true = ap test (sym e) ∙ t in rw s (omega arith)
+
+      earlier : 1 ≤ passed n → 1 ≤ passed n + cond (test n) 1 0
+      earlier h = omega arith
+
+  none-passed : (f : ℕ → ℕ) (n : ℕ) → passed n ≡ 0 → sum (λ i. when (test i) (f i)) n ≡ 0
+  unfolding sum when
+  none-passed f zero e = refl
+  none-passed f (suc n) e = go (test n) e (none-passed f n)
+    where
+      go : (b : Bool) → passed n + cond b 1 0 ≡ 0 → (passed n ≡ 0 → sum (λ i. when (test i) (f i)) n ≡ 0)
+          → sum (λ i. when (test i) (f i)) n + cond b (f n) 0 ≡ 0
+      go true q rest = absurd (omega (arith, q))
+      go false q rest = omega (arith, rest (omega (arith, q)))
+
+  pub sum-only : (f : ℕ → ℕ) (i n : ℕ) → i < n → test i ≡ true → passed n ≡ 1 → sum (λ j. when (test j) (f j)) n ≡ f i
+  unfolding sum when
+  sum-only f i zero l t e = absurd (omega arith)
+  sum-only f i (suc n) l t e = ⊎-elim last (λ b. earlier (test n) e b (sum-only f i n b t)) (eq-or-lt-of-le (le-of-suc-le-suc l))
+    where
+      last : i ≡ n → sum (λ j. when (test j) (f j)) n + cond (test n) (f n) 0 ≡ f i
+      last q =
+          let s : test n ≡ true = ap test (sym q) ∙ t in
+          let none : passed n + 1 ≡ 1 = rw s at e in
+          rw s (omega (arith, none-passed f n (omega (arith, none)), ap f q))
+
+      earlier : (c : Bool) → passed n + cond c 1 0 ≡ 1 → i < n → (passed n ≡ 1 → sum (λ j. when (test j) (f j)) n ≡ f i)
+          → sum (λ j. when (test j) (f j)) n + cond c (f n) 0 ≡ f i
+      earlier true q b rest = absurd (omega (arith, q, one-passed i n b t))
+      earlier false q b rest = omega (arith, rest (omega (arith, q)))
+
 pub both : (a b : Bool) → (a && b) ≡ true → (a ≡ true) × (b ≡ true)
 both true b e = (refl, e)
 both false b e = absurd (true≢false (sym e))

@@ -38,7 +38,7 @@ checked =
     ∷ figure (consumerVolume 0 10) 20
     ∷ figure (actual (producerMonth 1100 100) 0) 810
     ∷ figure (afterCut (producerMonth 1050 100) 0) 950
-    ∷ figure (actual (producerMonth 1050 100) 0) 770
+    ∷ figure (actual (producerMonth 1050 100) 0) 806
     ∷ figure (k1 (producerMonth 1100 120)) 974000
     ∷ figure (k1 (producerMonth 1100 121)) 968500
     ∷ []

@@ -1,4 +1,4 @@
--- Coefficients of a producer, in millionths, each rounded. T and S are its support volume and summed capacity before the cut.
+-- Coefficients of a producer, in millionths, each rounded. T and S are its support volume and summed capacity after the cut.
 use Prim.Native.Nat.{ℕ, zero, suc, _-_, _*_, min, max}
 use mathlib.Core.List.{List, [], _∷_}
 use Rattle.rules.specs.Range.{sum}
@@ -6,14 +6,13 @@ use Rattle.rules.specs.Units.{rounded, one, hundredth, inHundredths, inT
 use Rattle.rules.specs.Month.{Header, Producer, Month, hours}
 use Rattle.rules.specs.ControlHours.{controlAverage}
 use Rattle.rules.specs.Bands.{bandOf, thousandths}
-use Rattle.rules.specs.Cut.{supportVolume, summedCapacity}
+use Rattle.rules.specs.Cut.{afterCut, supportVolume, summedCapacity}
 -- A part of a whole, a coefficient before it is rounded: the struct Ratio of src/lib.rt.
 pub use Rattle.rules.specs.declared.Ratio.{Ratio}
 
--- A part of a whole as a coefficient; 1 where the whole is 0, as k4's rule has it. [Coefficients]
+-- A part of a whole as a coefficient. [Coefficients]
 unfoldable pub share : ℕ → ℕ → ℕ
-share part zero = one
-share part (suc rest) = rounded (part * one) (suc rest)
+share part whole = rounded (part * one) whole
 
 -- A part over a whole.
 abbrev pub ratio : ℕ → ℕ → Ratio
@@ -58,11 +57,16 @@ asked p S hour = min S (p .possible hour)
 unfoldable pub met : Producer → ℕ → ℕ → ℕ
 met p S hour = min (asked p S hour) (p .working hour)
 
+-- What is met over what is asked; 1 where nothing is asked. [Coefficients, k4]
+unfoldable pub metOver : ℕ → ℕ → Ratio
+metOver met zero = ratio 1 1
+metOver met (suc asked) = ratio met (suc asked)
+
 -- k4 before it is rounded: the sum of what is met over the sum of m. [Coefficients, k4; A2 p. 4]
 unfoldable pub exactK4 : Header → Producer → ℕ → Ratio
-exactK4 h p S = ratio (sum (met p S) (hours h)) (sum (asked p S) (hours h))
+exactK4 h p S = metOver (sum (met p S) (hours h)) (sum (asked p S) (hours h))
 
--- k4; 1 where the sum of m is 0. [Coefficients, k4; A2 p. 4]
+-- k4. [Coefficients, k4; A2 p. 4]
 unfoldable pub k4 : Header → Producer → ℕ → ℕ
 k4 h p S = millionthsOf (exactK4 h p S)
 
@@ -70,11 +74,25 @@ k4 h p S = millionthsOf (exactK4 h p S)
 unfoldable pub k5 : Header → Producer → ℕ
 k5 h p = share (hours h - p .noPlan) (hours h)
 
+-- k5 to k10. [Rows; p. 43]
+unfoldable pub fromK5 : Header → Producer → List ℕ
+fromK5 h p = k5 h p ∷ p .k6 ∷ p .k7 ∷ p .k8 ∷ p .k9 ∷ p .k10 ∷ []
+
 -- k1 to k10, in the order in which a row's volume is multiplied by them. [Rows; p. 43]
 unfoldable pub inOrder : Header → Producer → ℕ → ℕ → List ℕ
-inOrder h p T S =
-    k1 h p T ∷ k2 h p ∷ p .k3 ∷ k4 h p S ∷ k5 h p ∷ p .k6 ∷ p .k7 ∷ p .k8 ∷ p .k9 ∷ p .k10 ∷ []
+inOrder h p T S = k1 h p T ∷ k2 h p ∷ p .k3 ∷ k4 h p S ∷ fromK5 h p
 
--- The coefficients of producer p in a month: T and S are those before the cut. [Cut, Coefficients]
+-- All but k1 and k4, in that order. [Requests, 8]
+unfoldable pub others : Header → Producer → List ℕ
+others h p = k2 h p ∷ p .k3 ∷ fromK5 h p
+
+-- T and S of producer p in a month, after the cut: k1 and k4 are of these. [Cut; Requests, 8]
+unfoldable pub cutSupport : Month → ℕ → ℕ
+cutSupport m p = supportVolume m (afterCut m) p
+
+unfoldable pub cutCapacity : Month → ℕ → ℕ
+cutCapacity m p = summedCapacity m (afterCut m) p
+
+-- The coefficients of producer p in a month. [Cut, Coefficients; Requests, 8]
 unfoldable pub coefficients : Month → ℕ → List ℕ
-coefficients m p = inOrder (m .header) (m .producer p) (supportVolume m p) (summedCapacity m p)
+coefficients m p = inOrder (m .header) (m .producer p) (cutSupport m p) (cutCapacity m p)

@@ -18,41 +18,54 @@ support m j = eqb (m .row j .consumer) 255
 unfoldable pub bilateral : Month → ℕ → Bool
 bilateral m j = not (support m j)
 
--- What row j adds to the volume of producer p's rows. [Cut]
-unfoldable pub ownVolume : Month → ℕ → ℕ → ℕ
-ownVolume m p j = when (owns m p j) (m .row j .volume)
+-- The rows' volumes as the sheet has them, by place. [Units and the sheet, Rows]
+abbrev pub sold : Month → ℕ → ℕ
+sold m j = m .row j .volume
 
--- What row j adds to the volume of producer p's support rows. [Cut]
-unfoldable pub ownSupport : Month → ℕ → ℕ → ℕ
-ownSupport m p j = when (owns m p j && support m j) (m .row j .volume)
+-- What row j adds to the volume of producer p's rows, where each row counts with a volume v: that which the sheet has, or that after the
+-- cut. [Cut; Requests, 8]
+unfoldable pub ownVolume : Month → (ℕ → ℕ) → ℕ → ℕ → ℕ
+ownVolume m v p j = when (owns m p j) (v j)
 
--- What row j adds to the volume of producer p's bilateral rows. [Cut]
-unfoldable pub ownBilateral : Month → ℕ → ℕ → ℕ
-ownBilateral m p j = when (owns m p j && bilateral m j) (m .row j .volume)
+-- What row j adds to the volume of producer p's support rows. [Cut; Requests, 8]
+unfoldable pub ownSupport : Month → (ℕ → ℕ) → ℕ → ℕ → ℕ
+ownSupport m v p j = when (owns m p j && support m j) (v j)
 
--- T: the sum of producer p's support rows' volumes, as the sheet has them. [Cut; p. 2, 11)]
-unfoldable pub supportVolume : Month → ℕ → ℕ
-supportVolume m p = sum (ownSupport m p) (m .header .rows)
+-- What row j adds to the volume of producer p's bilateral rows. [Cut; Requests, 8]
+unfoldable pub ownBilateral : Month → (ℕ → ℕ) → ℕ → ℕ → ℕ
+ownBilateral m v p j = when (owns m p j && bilateral m j) (v j)
 
--- B: the sum of producer p's bilateral rows' volumes, as the sheet has them. [Cut; p. 90]
-unfoldable pub bilateralVolume : Month → ℕ → ℕ
-bilateralVolume m p = sum (ownBilateral m p) (m .header .rows)
+-- T: the sum of producer p's support rows' volumes. [Cut; p. 2, 11); Requests, 8]
+unfoldable pub supportVolume : Month → (ℕ → ℕ) → ℕ → ℕ
+supportVolume m v p = sum (ownSupport m v p) (m .header .rows)
 
--- S = T + B + deductible. [Cut; p. 2, 11), p. 90]
-unfoldable pub summedCapacity : Month → ℕ → ℕ
-summedCapacity m p = supportVolume m p + bilateralVolume m p + m .producer p .deductible
+-- B: the sum of producer p's bilateral rows' volumes. [Cut; p. 90; Requests, 8]
+unfoldable pub bilateralVolume : Month → (ℕ → ℕ) → ℕ → ℕ
+bilateralVolume m v p = sum (ownBilateral m v p) (m .header .rows)
 
--- The excess: S less own needs, less attested capacity, neither below 0. [Cut; p. 35, 90]
+-- S = T + B + deductible. [Cut; p. 2, 11), p. 90; Requests, 8]
+unfoldable pub summedCapacity : Month → (ℕ → ℕ) → ℕ → ℕ
+summedCapacity m v p = supportVolume m v p + bilateralVolume m v p + m .producer p .deductible
+
+-- The excess: S of the volumes that the sheet has, less own needs, less attested capacity, neither below 0. [Cut; p. 35, 90]
 unfoldable pub excess : Month → ℕ → ℕ
-excess m p = summedCapacity m p - m .producer p .ownNeeds - m .producer p .attested
+excess m p = summedCapacity m (sold m) p - m .producer p .ownNeeds - m .producer p .attested
 
 -- What is left of producer p's excess when row j's turn comes: its rows before j have yielded all they could. [Cut]
 unfoldable pub leftToCut : Month → ℕ → ℕ → ℕ
-leftToCut m p j = excess m p - sum (ownVolume m p) j
+leftToCut m p j = excess m p - sum (ownVolume m (sold m) p) j
 
 -- The volume of row j after the cut: what it has less what is left to cut, not below 0. [Cut]
 unfoldable pub afterCut : Month → ℕ → ℕ
 afterCut m j = m .row j .volume - leftToCut m (m .row j .producer) j
+
+-- How many of the sheet's rows are producer p's, whatever their volumes. [Requests, 8]
+unfoldable pub rowCount : Month → ℕ → ℕ
+rowCount m p = sum (λ j. when (owns m p j) 1) (m .header .rows)
+
+-- Producer p has a single row in the sheet. [Requests, 8]
+unfoldable pub single : Month → ℕ → Bool
+single m p = eqb (rowCount m p) 1
 
 -- The same cut as it is told, row by row: each volume in its turn yields what it can, until nothing is left to cut. [Cut]
 -- (row-by-row, in laws/Cut, shows that the volumes after the cut are these.)

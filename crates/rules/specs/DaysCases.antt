@@ -71,13 +71,13 @@ shareCases =
     -- the checked months with days 1 to 30 stated
     ∷ figure (actual (checkedFor 1 30 1100 100) 0) 810
     ∷ figure (afterCut (checkedFor 1 30 1050 100) 0) 950
-    ∷ figure (actual (checkedFor 1 30 1050 100) 0) 770
+    ∷ figure (actual (checkedFor 1 30 1050 100) 0) 806
     ∷ figure (k1 (checkedFor 1 30 1100 120)) 974000
     ∷ figure (k1 (checkedFor 1 30 1100 121)) 968500
     -- the same for 15 days: the cut, T and S are those of 100.0 and not of 50.0, by which nothing would be cut, k1 would be
-    -- 1 - 1.3 × 2 / 50 = 0.948 and k4 1; 95 × 0.9 × 0.9 / 2 = 38.475, and 100 × 0.974 × 0.9 × 0.9 / 2 = 39.447
+    -- 1 - 1.3 × 2 / 50 = 0.948 and k4 1; 95 × 99 / 105 × 0.9 / 2 = 40.307143, and 100 × 0.974 × 0.9 × 0.9 / 2 = 39.447
     ∷ figure (afterCut (checkedFor 16 30 1050 100) 0) 950
-    ∷ figure (actual (checkedFor 16 30 1050 100) 0) 385
+    ∷ figure (actual (checkedFor 16 30 1050 100) 0) 403
     ∷ figure (k1 (checkedFor 16 30 1100 120)) 974000
     ∷ figure (k4 (checkedFor 16 30 1100 120)) 900000
     ∷ figure (actual (checkedFor 16 30 1100 120) 0) 394

@@ -37,3 +37,4 @@ pub mod Text2015Cases
 pub mod DaysCases
 pub mod HundredthsCases
 pub mod ColumnCases
+pub mod AfterCutCases

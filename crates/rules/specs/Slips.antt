@@ -157,9 +157,8 @@ hourFigures =
     -- the sum of m is 0: possible 0, or S 0
     ∷ figure (k4 (powerMonth 100000 1000 100 (every 500) (every 0))) 1000000
     ∷ figure (k4 (powerMonth 100000 0 0 (every 500) (every 500))) 1000000
-    -- the cut leaves k4 alone: S 200.0, attested 150.0, possible 200.0, working 150.0: 0.75, and the row 150 × 0.75 = 112.5. With S cut, 1
-    ∷ figure (k4 (powerMonth 1500 2000 0 (every 1500) (every 2000))) 750000
-    ∷ figure (actual (powerMonth 1500 2000 0 (every 1500) (every 2000)) 0) 1125
+    -- S is that after the cut: 200.0 is cut to attested 150.0, possible 200.0, working 120.0: 120 / 150. With S before the cut, 0.6
+    ∷ figure (k4 (powerMonth 1500 2000 0 (every 1200) (every 2000))) 800000
     -- lower possible power may pay more, so demand 3 holds it fixed: attested and S 200.0, working 150.0. Possible 200.0: 200 × 0.75 = 150.0;
     -- possible 150.0: 200.0
     ∷ figure (actual (powerMonth 2000 2000 0 (every 1500) (every 2000)) 0) 1500
@@ -234,9 +233,10 @@ rowFigures =
     -- k1 and k4 count in rows of both kinds: 100 × 0.974 × 0.75 = 73.05, half upward; 50 × 0.974 × 0.75 = 36.525
     ∷ figure (actual (soldMonth 1600) 0) 731
     ∷ figure (actual (soldMonth 1600) 1) 365
-    -- attested 155.0 cuts 5.0 from the first row: 95 × 0.974 = 92.53; × 0.75 = 69.3975. T and S are those before the cut: with
-    -- T 95.0 k1 would be 0.972632, and the row 69.3; with S 155.0 k4 would be 0.774194, and the row 71.6
-    ∷ figure (actual (soldMonth 1550) 0) 694
+    -- attested 155.0 cuts 5.0 from the first row: T 95.0, k1 0.972632; S 155.0, k4 0.774194; 95 × 0.972632 = 92.40004; × 0.774194 = 71.535557.
+    -- With T before the cut 71.6, with S before it 69.3. The second row follows: 50 × 0.972632 × 0.774194 = 37.650293
+    ∷ figure (actual (soldMonth 1550) 0) 715
+    ∷ figure (actual (soldMonth 1550) 1) 377
     -- each given coefficient counts once: 3,000 × 0.9 × 0.8 × 0.7 × 0.6 × 0.5 × 0.4 = 3,000 × 0.06048 = 181.44
     ∷ figure (actual (rowMonth 30000 0 (900000 ∷ 800000 ∷ 700000 ∷ 600000 ∷ 500000 ∷ 400000 ∷ []) 100000) 0) 1814
     -- k5 counts too: 360 of 720 hours without a plan halve 10.0
