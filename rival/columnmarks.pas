@@ -64,16 +64,6 @@ begin
   Result := ResultBytes(Other, Settlement);
 end;
 
-{ Two results of one sheet, so of one length. }
-function Differ(const A, B: TByteSequence): Boolean;
-var
-  Number: Integer;
-begin
-  for Number := 0 to High(A) do
-    if A[Number] <> B[Number] then Exit(True);
-  Result := False;
-end;
-
 procedure AddColumnMarks(var Line: string; const Bytes: TByteSequence; const Sheet: TSheet;
   const Settlement: TSettlement);
 var

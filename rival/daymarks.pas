@@ -89,17 +89,19 @@ begin
   Result := Rounded(Whole(Millionths) / Whole(MillionthsInTenth));
 end;
 
-{ Multiplied by the coefficients First to Last, rounded after each. }
-function Through(const K: TCoefficients; First, Last: Integer; Running: Int64): Int64;
+{ What the coefficients leave of a volume in millionths. }
+function ThroughAll(const Producer: TProducerFigures; Volume: Int64): Int64;
 var
-  Number: Integer;
+  Products: TCoefficients;
+  Ties: TTies;
 begin
-  Result := Running;
-  for Number := First to Last do
-    Result := Rounded(Whole(Result) * Part(K[Number], Million));
+  Products := Default(TCoefficients);
+  Ties := [];
+  TakeProducts(Producer, Volume, Products, Ties);
+  Result := Products[10];
 end;
 
-procedure AddSlipMarks(var Line: string; const Row: TRow; const K: TCoefficients;
+procedure AddSlipMarks(var Line: string; const Row: TRow; const Producer: TProducerFigures;
   DaysInMonth: Integer; const Figures: TRowFigures);
 var
   Share, OneFewer: TFraction;
@@ -114,10 +116,10 @@ begin
   OneFewer := Part(DaysCovered(Row) - 1, DaysInMonth);
   with Figures do
   begin
-    Compare('daysbefore', InTenths(Through(K, 1, 10,
+    Compare('daysbefore', InTenths(ThroughAll(Producer,
       Rounded(Whole(VolumeAfterCut * MillionthsInTenth) * Share))));
-    Compare('daysbeforek10', InTenths(Through(K, 10, 10,
-      Rounded(Whole(Products[9]) * Share))));
+    Compare('daysbeforek10', InTenths(Rounded(
+      Whole(Rounded(Whole(Products[9]) * Share)) * Part(Producer.K[10], Million))));
     Compare('daysaftertenth', Rounded(Whole(InTenths(Products[10])) * Share));
     Compare('daysunrounded',
       Rounded(Whole(Products[10]) * Share / Whole(MillionthsInTenth)));
@@ -127,33 +129,40 @@ end;
 
 { ----------------------------------- accepted: slips in the cut, in T and S }
 
-{ The same sheet with each row's volume for the days covered in place of the full one. }
-function WithVolumesOfDays(const Sheet: TSheet): TSheet;
+{ Each row's volume for the days covered in place of the full one. }
+function OfDays(const Sheet: TSheet; const Volumes: TVolumes): TVolumes;
 var
   Number: Integer;
 begin
-  Result := Sheet;
+  Result := Volumes;
   for Number := 0 to Sheet.Header.RowCount - 1 do
-    with Sheet.Rows[Number] do
-      Result.Rows[Number].Volume := Rounded(
-        Whole(Volume) * Part(DaysCovered(Sheet.Rows[Number]), Sheet.Header.Days));
+    Result[Number] := Rounded(Whole(Volumes[Number])
+      * Part(DaysCovered(Sheet.Rows[Number]), Sheet.Header.Days));
 end;
 
+{ The excess comes from the sums before the cut, k1 and k4 from those after the cut as it
+  is. }
 procedure AddSumMarks(var Line: string; const Sheet: TSheet; const Settlement: TSettlement);
 var
+  Before, After: TVolumes;
+  Sums: TSums;
   Other: TSettlement;
   Number: Integer;
 begin
-  Other := Default(TSettlement);
-  SettleProducers(WithVolumesOfDays(Sheet), Other);
+  Before := OfDays(Sheet, VolumesBeforeCut(Sheet));
+  After := OfDays(Sheet, VolumesAfterCut(Sheet, Settlement));
+  Other := Settlement;
   for Number := 0 to Sheet.Header.ProducerCount - 1 do
   begin
+    Sums := SumsOf(Sheet, Number, After);
+    TakeK1AndK4(Sheet, Number, Sums.T, Sums.S, Other);
     if Other.Producers[Number].K[1] <> Settlement.Producers[Number].K[1] then
       AddMark(Line, 'tofdays');
     if Other.Producers[Number].K[4] <> Settlement.Producers[Number].K[4] then
       AddMark(Line, 'sofdays');
     { The excess is another, but it is the full volumes that the rows give up. }
-    CutRows(Sheet, Number, Other.Producers[Number].Excess, Other);
+    CutRows(Sheet, Number, ExcessOf(Sheet.Producers[Number],
+      SumsOf(Sheet, Number, Before).S), Other);
   end;
   for Number := 0 to Sheet.Header.RowCount - 1 do
     if Other.Rows[Number].VolumeAfterCut <> Settlement.Rows[Number].VolumeAfterCut then
@@ -172,7 +181,7 @@ begin
       AddCoverMarks(Line, Sheet.Rows[Number], Sheet.Header.Days);
       AddRoundingMark(Line, Sheet.Rows[Number], Sheet.Header.Days, Settlement.Rows[Number]);
       AddSlipMarks(Line, Sheet.Rows[Number],
-        Settlement.Producers[Sheet.Rows[Number].Producer].K, Sheet.Header.Days,
+        Settlement.Producers[Sheet.Rows[Number].Producer], Sheet.Header.Days,
         Settlement.Rows[Number]);
     end;
   AddSumMarks(Line, Sheet, Settlement);

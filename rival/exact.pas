@@ -1,6 +1,6 @@
 { Exact numbers for the settlement: whole numbers not below 0, and fractions of
-  two such numbers. A fraction is never shortened and never rounded, except by
-  RoundedHalfUp, which is called only where the papers say so. }
+  two such numbers. A fraction is never shortened, except in its text, and never rounded,
+  except by RoundedHalfUp, which is called only where the papers say so. }
 unit exact;
 
 {$mode objfpc}{$H+}{$R+}{$Q+}
@@ -24,9 +24,20 @@ type
     Over, Under: TNatural;
   end;
 
+  { How a value came to its whole unit. No figure depends on it. }
+  TWayRounded = (wayExact, wayDown, wayHalf, wayUp);
+
+  TRounded = record
+    Figure: QWord;
+    Way: TWayRounded;
+  end;
+
 function Whole(Value: QWord): TFraction;
 function Part(Over, Under: QWord): TFraction;
 function IsNought(const A: TFraction): Boolean;
+
+{ -1 if A is the smaller, 0, 1 if it is the larger. }
+function CompareFractions(const A, B: TFraction): Integer;
 
 operator + (const A, B: TFraction) Outcome: TFraction;
 operator - (const A, B: TFraction) Outcome: TFraction; { A is not below B }
@@ -39,6 +50,12 @@ function LessNotBelowNought(const A, B: TFraction): TFraction;
 { To the nearest whole unit, a half upward. ExactHalf tells whether the value
   lay exactly half a unit above a whole one. }
 function RoundedHalfUp(const Value: TFraction; out ExactHalf: Boolean): QWord;
+
+{ The same, with the way. }
+function RoundedWithWay(const Value: TFraction): TRounded;
+
+{ Shortened as far as it goes, `627000000/7`; a whole number without what is under it. }
+function FractionText(const Value: TFraction): string;
 
 implementation
 
@@ -236,7 +253,6 @@ begin
   Result := A.Over.Used = 0;
 end;
 
-{ -1, 0 or 1 }
 function CompareFractions(const A, B: TFraction): Integer;
 begin
   Result := CompareNaturals(ProductOf(A.Over, B.Under), ProductOf(B.Over, A.Under));
@@ -303,6 +319,62 @@ begin
   if TwiceTheRest >= 0 then
     Quotient := SumOf(Quotient, NaturalOf(1));
   Result := QWordOf(Quotient);
+end;
+
+function RoundedWithWay(const Value: TFraction): TRounded;
+var
+  ExactHalf: Boolean;
+begin
+  Result.Figure := RoundedHalfUp(Value, ExactHalf);
+  if ExactHalf then
+    Result.Way := wayHalf
+  else
+    case CompareFractions(Whole(Result.Figure), Value) of
+      -1: Result.Way := wayDown;
+      0: Result.Way := wayExact;
+    else
+      Result.Way := wayUp;
+    end;
+end;
+
+{ -------------------------------------------------------------------- text }
+
+{ Nine digits for every group below the highest. }
+function NaturalText(const Value: TNatural): string;
+var
+  Group: Integer;
+begin
+  if Value.Used = 0 then Exit('0');
+  Result := IntToStr(Value.Groups[Value.Used - 1]);
+  for Group := Value.Used - 2 downto 0 do
+    Result := Result + Format('%.9d', [Value.Groups[Group]]);
+end;
+
+{ The greatest number that goes into both; the divisor of one division is what is divided
+  in the next, until no rest is left. }
+function GreatestCommonDivisor(A, B: TNatural): TNatural;
+var
+  Quotient, Rest: TNatural;
+begin
+  while B.Used > 0 do
+  begin
+    DivideWithRest(A, B, Quotient, Rest);
+    A := B;
+    B := Rest;
+  end;
+  Result := A;
+end;
+
+function FractionText(const Value: TFraction): string;
+var
+  Common, Over, Under, Rest: TNatural;
+begin
+  Common := GreatestCommonDivisor(Value.Over, Value.Under);
+  DivideWithRest(Value.Over, Common, Over, Rest);
+  DivideWithRest(Value.Under, Common, Under, Rest);
+  Result := NaturalText(Over);
+  if CompareNaturals(Under, NaturalOf(1)) <> 0 then
+    Result := Result + '/' + NaturalText(Under);
 end;
 
 end.

@@ -37,12 +37,10 @@ begin
   Result := OverUseOf(Average, Deductible, Ties);
 end;
 
-function K1From(const Penalty: TFraction; SupportSum: Int64): Int64;
-var
-  Ties: TTies;
+{ To a millionth. }
+function K1From(const Penalty: TFraction; T: Int64): Int64;
 begin
-  Ties := [];
-  Result := K1Of(Penalty, SupportSum, Ties);
+  Result := RoundedWithWay(K1Of(Penalty, T) * Whole(Million)).Figure;
 end;
 
 function IsWholeTenths(Hundredths: Int64): Boolean;
@@ -107,7 +105,7 @@ procedure AddSlipMarks(var Line: string; DeductibleTenths: Int64;
 
   procedure Compare(const Mark: string; const Penalty: TFraction);
   begin
-    if K1From(Penalty, Figures.SupportSum) <> Figures.K[1] then AddMark(Line, Mark);
+    if K1From(Penalty, Figures.AfterCut.T) <> Figures.K[1] then AddMark(Line, Mark);
   end;
 
 var

@@ -22,15 +22,12 @@ function NumberText(Value: Int64): string;
 
 implementation
 
-uses
-  controlhours;
-
 const
   EdgeCount = 8;
   Edges: array[1..EdgeCount] of Int64 = (50, 51, 200, 201, 400, 401, 500, 501);
 
   TieNames: array[TRoundedFigure] of string = ('average', 'p', 'k1', 'k2', 'k4', 'k5',
-    'product', 'days', 'volume', 'payment', 'cvolume', 'charge');
+    'fraction', 'product', 'days', 'volume', 'payment', 'cvolume', 'charge');
 
 function NumberText(Value: Int64): string;
 begin
@@ -65,15 +62,14 @@ begin
   begin
     AddMark(Line, 'k1band' + NumberText(OverUse.Band));
     AddEdgeMarks(Line, 'k1', OverUse.P);
-    if SupportSum = 0 then
+    if AfterCut.T = 0 then
     begin
       if OverUse.N * OverUse.D = 0 then
         AddMark(Line, 'k1zeroT')
       else
         AddMark(Line, 'k1zeroTpos');
     end
-    { n stands in tenths, D in hundredths of a megawatt, T in tenths of one. }
-    else if OverUse.N * OverUse.D > 10 * HundredthsInTenth * SupportSum then
+    else if PenaltyAgainst(OverUse, AfterCut.T) > 0 then
       AddMark(Line, 'k1floor');
     if Producer.DeductibleCapacity = 0 then
     begin
@@ -83,12 +79,12 @@ begin
         AddMark(Line, 'k1q0epos');
     end;
     if ControlHours = 0 then AddMark(Line, 'nocontrol');
-    if SumOfM = 0 then AddMark(Line, 'k4zero');
+    if OverHours.M = 0 then AddMark(Line, 'k4zero');
     { A producer whose rows come to 0 has nothing that could be cut. }
-    if SupportSum + BilateralSum > 0 then
+    if BeforeCut.T + BeforeCut.B > 0 then
     begin
       if Excess = 0 then AddMark(Line, 'cutnone');
-      if Excess >= SupportSum + BilateralSum then AddMark(Line, 'cutall');
+      if Excess >= BeforeCut.T + BeforeCut.B then AddMark(Line, 'cutall');
     end;
   end;
 end;

@@ -21,7 +21,7 @@ function RefusalMarks2015(const Sheet: TSheet; Refusal: Integer;
 implementation
 
 uses
-  refusals, results, marks, daymarks;
+  exact, refusals, results, marks, daymarks;
 
 const
   { Where a factor ends, in hundredths of a percent. }

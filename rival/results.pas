@@ -13,6 +13,9 @@ function ResultLength(const Header: THeader): Int64;
 
 function ResultBytes(const Sheet: TSheet; const Settlement: TSettlement): TByteSequence;
 
+{ Whether two results of one sheet, so of one length, are not the same byte by byte. }
+function Differ(const A, B: TByteSequence): Boolean;
+
 { Writes a figure in Width bytes, highest byte first, and moves the place on. A
   figure too large for its width would be a range error. }
 procedure Put(var Bytes: TByteSequence; var Place: Integer; Width: Integer; Figure: QWord);
@@ -71,6 +74,15 @@ begin
     end;
   Put(Result, Place, 8, Settlement.TotalPaid);
   Put(Result, Place, 8, Settlement.TotalCharged);
+end;
+
+function Differ(const A, B: TByteSequence): Boolean;
+var
+  Number: Integer;
+begin
+  for Number := 0 to High(A) do
+    if A[Number] <> B[Number] then Exit(True);
+  Result := False;
 end;
 
 end.

@@ -1,4 +1,4 @@
-{ The rival: a second reading of document 01 and of requests 1, 3, 4, 5, 6 and 7 of
+{ The rival: a second reading of document 01 and of requests 1, 3, 4, 5, 6, 7 and 8 of
   document 02, to compare a proved program with. See README.md for its commands. }
 program rival;
 
@@ -7,7 +7,7 @@ program rival;
 uses
   SysUtils, sheets, refusals, settlements, results, transfers, complexes, texts2015,
   rearrangements, listings, traces, marks, daymarks, hundredthmarks, columnmarks,
-  transfermarks, complexmarks, marks2015, bytefiles;
+  aftercutmarks, transfermarks, complexmarks, marks2015, bytefiles;
 
 const
   MostBytesListed = 65536;    { section Listing: what is handed over of a longer input }
@@ -316,6 +316,7 @@ begin
   AddDayMarks(Result, Sheet, Settlement);
   AddHundredthMarks(Result, Sheet, Settlement);
   AddColumnMarks(Result, BytesOfCase, Sheet, Settlement);
+  AddAfterCutMarks(Result, Sheet, Settlement);
 end;
 
 { Document 01's settlement is taken too, for what the two texts see differently. }

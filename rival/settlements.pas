@@ -6,7 +6,8 @@
   no sum over hours passes 74,400,000; a sheet has at most 32 rows, so no sum
   over rows passes 3,300,000. Where k1 works in hundredths (request 6 of document
   02), these figures are ten times as large. Every product and every quotient is
-  worked out in exact fractions. Money is kept in QWord: one charge can reach
+  worked out in exact fractions. T, B and S are kept twice (request 8): before the cut,
+  for the excess, and after it, for k1 and k4. Money is kept in QWord: one charge can reach
   about 4.1 x 10^17 tiyn, and 32 of them 1.31 x 10^19, which is past Int64 but
   not past QWord. }
 unit settlements;
@@ -23,10 +24,11 @@ const
   MillionthsInTenth = 100000;
 
 type
-  { Each figure that document 01, as requests 5 and 6 of document 02 change it, has
+  { Each figure that document 01, as requests 5, 6 and 8 of document 02 change it, has
     rounded. The set of ties tells which of them lay exactly on a half somewhere in the
-    sheet; no figure depends on it. }
-  TRoundedFigure = (figAverage, figP, figK1, figK2, figK4, figK5,
+    sheet; no figure depends on it. k1 and k4 count only where they are used rounded, for
+    a producer with more rows than one. }
+  TRoundedFigure = (figAverage, figP, figK1, figK2, figK4, figK5, figFraction,
     figProduct, figDays, figVolume, figPayment, figConsumerVolume, figCharge);
   TTies = set of TRoundedFigure;
 
@@ -42,23 +44,43 @@ type
     N: Int64;              { tenths }
   end;
 
+  { A volume for each row of the sheet, tenths. }
+  TVolumes = array[0..MostRows - 1] of Int64;
+
+  { What a producer's rows come to, tenths. }
+  TSums = record
+    T: Int64;              { its support rows }
+    B: Int64;              { its bilateral rows }
+    S: Int64;              { T + B + deductible }
+  end;
+
+  { What k4 is made of, tenths. }
+  TSumsOverHours = record
+    M: Int64;              { of the smaller of S and possible power }
+    Worked: Int64;         { of the smaller of m and working power }
+  end;
+
   TProducerFigures = record
-    SupportSum: Int64;     { T, tenths, before the cut }
-    BilateralSum: Int64;   { B, tenths, before the cut }
-    WholeSum: Int64;       { S = T + B + deductible, tenths, before the cut }
+    RowCount: Int64;       { the rows of the sheet that name it, whatever their volume }
+    AsOneFraction: Boolean; { its row is worked as one fraction: it has a single one }
+    BeforeCut: TSums;      { by the volumes of the sheet; the excess comes from these }
     Excess: Int64;         { to be cut from the rows, tenths }
+    AfterCut: TSums;       { by the volumes after the cut; k1 and k4 come from these }
     ControlHours: Int64;
     ControlSum: Int64;     { outside use over the control hours, tenths }
     ControlAverage: Int64; { hundredths }
     OverUse: TOverUse;
-    SumOfM: Int64;         { sum over the hours of the smaller of S and possible }
-    SumWorked: Int64;      { sum over the hours of the smaller of m and working }
+    OverHours: TSumsOverHours;
+    ExactK1: TFraction;    { k1 and k4 before they are rounded, for the one fraction }
+    ExactK4: TFraction;
     K: TCoefficients;
   end;
 
   TRowFigures = record
     VolumeAfterCut: Int64; { tenths }
-    Products: TCoefficients; { the running product after k1, k2 ... k10, millionths }
+    { The running product after k1, k2 ... k10, millionths. In a single row the first is
+      the one fraction, rounded, and the fourth the third again: k4 is in the first. }
+    Products: TCoefficients;
     ForDaysCovered: Int64; { the last product's share for the days covered, millionths }
     ActualVolume: Int64;   { tenths }
     Payment: QWord;        { tiyn }
@@ -87,16 +109,43 @@ type
 { The sheet has passed all its refusals. }
 procedure Settle(const Sheet: TSheet; out Settlement: TSettlement);
 
-{ Parts of it, for marks that ask what other figures would have given: the producers'
-  figures with their rows' volumes after the cut, the cut of one producer's rows alone,
-  and the steps of k1: D with its band, from an average and a deductible capacity in
-  hundredths; the penalty n x D, in hundredths; k1, from that penalty and T in tenths. }
-procedure SettleProducers(const Sheet: TSheet; var Settlement: TSettlement);
+{ Its two halves, for marks that ask what other figures of the producers would have
+  given: the producers' figures with their rows' volumes after the cut, all else at 0, and
+  then once what is worked out from these. }
+procedure SettleProducers(const Sheet: TSheet; out Settlement: TSettlement);
+procedure SettleRowsAndConsumers(const Sheet: TSheet; var Settlement: TSettlement);
+
+{ And smaller parts. The rows' volumes, those of the sheet and those after the cut; the
+  sums of one producer's rows by some volumes; what an S exceeds a producer's capacity by;
+  the cut of one producer's rows alone. }
+function VolumesBeforeCut(const Sheet: TSheet): TVolumes;
+function VolumesAfterCut(const Sheet: TSheet; const Settlement: TSettlement): TVolumes;
+function SumsOf(const Sheet: TSheet; ProducerNumber: Integer;
+  const Volumes: TVolumes): TSums;
+function ExcessOf(const Producer: TProducer; S: Int64): Int64;
 procedure CutRows(const Sheet: TSheet; ProducerNumber: Integer; Excess: Int64;
   var Settlement: TSettlement);
+
+{ The steps of k1: D with its band, from an average and a deductible capacity in
+  hundredths; the penalty n x D, in hundredths, and whether it is below a T in tenths (-1),
+  at it (0) or above it (1); k1, exact, from a penalty and a T in tenths. }
 function OverUseOf(Average, Deductible: Int64; var Ties: TTies): TOverUse;
 function NTimesD(const OverUse: TOverUse): TFraction;
-function K1Of(const Penalty: TFraction; SupportSum: Int64; var Ties: TTies): Int64;
+function PenaltyAgainst(const OverUse: TOverUse; T: Int64): Integer;
+function K1Of(const Penalty: TFraction; T: Int64): TFraction;
+
+{ The sums that k4 is made of, from an S in tenths. }
+function SumsOverHours(const Producer: TProducer; H, S: Int64): TSumsOverHours;
+
+{ k1 and k4 of one producer, exact and rounded, from a T and an S in tenths. }
+procedure TakeK1AndK4(const Sheet: TSheet; ProducerNumber: Integer; T, S: Int64;
+  var Settlement: TSettlement);
+
+{ A volume in millionths times the exact k1 and k4 of its producer; the running products
+  of a row that has this volume. }
+function OneFraction(const Producer: TProducerFigures; Volume: Int64): TFraction;
+procedure TakeProducts(const Producer: TProducerFigures; Volume: Int64;
+  var Products: TCoefficients; var Ties: TTies);
 
 implementation
 
@@ -197,31 +246,63 @@ end;
 
 { --------------------------------------------------------------------- cut }
 
-{ Section Cut, first half: T, B and S of one producer, and what is to be cut. }
-procedure TakeSums(const Sheet: TSheet; ProducerNumber: Integer;
-  var Figures: TProducerFigures);
+function VolumesBeforeCut(const Sheet: TSheet): TVolumes;
 var
   Number: Integer;
-  LessOwnNeeds: Int64;
 begin
-  Figures.SupportSum := 0;
-  Figures.BilateralSum := 0;
+  Result := Default(TVolumes);
+  for Number := 0 to Sheet.Header.RowCount - 1 do
+    Result[Number] := Sheet.Rows[Number].Volume;
+end;
+
+function VolumesAfterCut(const Sheet: TSheet; const Settlement: TSettlement): TVolumes;
+var
+  Number: Integer;
+begin
+  Result := Default(TVolumes);
+  for Number := 0 to Sheet.Header.RowCount - 1 do
+    Result[Number] := Settlement.Rows[Number].VolumeAfterCut;
+end;
+
+{ Every row that names the producer counts, be its volume 0. }
+function RowCountOf(const Sheet: TSheet; ProducerNumber: Integer): Int64;
+var
+  Number: Integer;
+begin
+  Result := 0;
+  for Number := 0 to Sheet.Header.RowCount - 1 do
+    if Sheet.Rows[Number].Producer = ProducerNumber then
+      Result := Result + 1;
+end;
+
+{ Section Cut: T, B and S of one producer. }
+function SumsOf(const Sheet: TSheet; ProducerNumber: Integer;
+  const Volumes: TVolumes): TSums;
+var
+  Number: Integer;
+begin
+  Result.T := 0;
+  Result.B := 0;
   for Number := 0 to Sheet.Header.RowCount - 1 do
     if Sheet.Rows[Number].Producer = ProducerNumber then
       if IsSupportRow(Sheet.Rows[Number]) then
-        Figures.SupportSum := Figures.SupportSum + Sheet.Rows[Number].Volume
+        Result.T := Result.T + Volumes[Number]
       else
-        Figures.BilateralSum := Figures.BilateralSum + Sheet.Rows[Number].Volume;
-  with Sheet.Producers[ProducerNumber] do
-  begin
-    Figures.WholeSum := Figures.SupportSum + Figures.BilateralSum + DeductibleCapacity;
-    LessOwnNeeds := Larger(Figures.WholeSum - GreatestOwnNeeds, 0);
-    Figures.Excess := Larger(LessOwnNeeds - AttestedCapacity, 0);
-  end;
+        Result.B := Result.B + Volumes[Number];
+  Result.S := Result.T + Result.B + Sheet.Producers[ProducerNumber].DeductibleCapacity;
 end;
 
-{ Section Cut, second half: each row of the producer, in sheet order, gives what
-  it has until the excess is used up. }
+{ Section Cut: what is to be cut, from S before the cut. }
+function ExcessOf(const Producer: TProducer; S: Int64): Int64;
+var
+  LessOwnNeeds: Int64;
+begin
+  LessOwnNeeds := Larger(S - Producer.GreatestOwnNeeds, 0);
+  Result := Larger(LessOwnNeeds - Producer.AttestedCapacity, 0);
+end;
+
+{ Section Cut: each row of the producer, in sheet order, gives what it has until the
+  excess is used up. }
 procedure CutRows(const Sheet: TSheet; ProducerNumber: Integer; Excess: Int64;
   var Settlement: TSettlement);
 var
@@ -236,6 +317,20 @@ begin
       Settlement.Rows[Number].VolumeAfterCut := Sheet.Rows[Number].Volume - Given;
       StillToCut := StillToCut - Given;
     end;
+end;
+
+{ The rows' volumes after the cut, and what they came to before it and come to now. }
+procedure TakeCut(const Sheet: TSheet; ProducerNumber: Integer; var Settlement: TSettlement);
+begin
+  with Settlement.Producers[ProducerNumber] do
+  begin
+    RowCount := RowCountOf(Sheet, ProducerNumber);
+    AsOneFraction := RowCount = 1;
+    BeforeCut := SumsOf(Sheet, ProducerNumber, VolumesBeforeCut(Sheet));
+    Excess := ExcessOf(Sheet.Producers[ProducerNumber], BeforeCut.S);
+    CutRows(Sheet, ProducerNumber, Excess, Settlement);
+    AfterCut := SumsOf(Sheet, ProducerNumber, VolumesAfterCut(Sheet, Settlement));
+  end;
 end;
 
 { ------------------------------------------------------------ coefficients }
@@ -254,25 +349,33 @@ begin
   Result := Part(OverUse.N, 10) * Whole(OverUse.D);
 end;
 
-function K1Of(const Penalty: TFraction; SupportSum: Int64; var Ties: TTies): Int64;
-var
-  T: TFraction; { in hundredths, as the penalty is }
+{ In hundredths, as the penalty is. }
+function InHundredths(T: Int64): TFraction;
 begin
-  T := Whole(HundredthsInTenth * SupportSum);
-  if not IsNought(T) then
-    Result := Coefficient(figK1, LessNotBelowNought(Whole(1), Penalty / T), Ties)
+  Result := Whole(HundredthsInTenth * T);
+end;
+
+function PenaltyAgainst(const OverUse: TOverUse; T: Int64): Integer;
+begin
+  Result := CompareFractions(NTimesD(OverUse), InHundredths(T));
+end;
+
+function K1Of(const Penalty: TFraction; T: Int64): TFraction;
+begin
+  if T > 0 then
+    Result := LessNotBelowNought(Whole(1), Penalty / InHundredths(T))
   else if IsNought(Penalty) then
-    Result := Million
+    Result := Whole(1)
   else
-    Result := 0;
+    Result := Whole(0);
 end;
 
 { All of it in hundredths (request 6 of document 02): the sheet's tenths count ten each. }
-procedure TakeK1(const Producer: TProducer; var Figures: TProducerFigures; var Ties: TTies);
+procedure TakeOverUse(const Producer: TProducer; var Figures: TProducerFigures;
+  var Ties: TTies);
 begin
   Figures.OverUse := OverUseOf(Figures.ControlAverage,
     HundredthsInTenth * Int64(Producer.DeductibleCapacity), Ties);
-  Figures.K[1] := K1Of(NTimesD(Figures.OverUse), Figures.SupportSum, Ties);
 end;
 
 { k2: the worse of the two bid counts, not both. }
@@ -285,27 +388,53 @@ begin
   Figures.K[2] := Coefficient(figK2, Whole(H - WithoutBid) / Whole(H), Ties);
 end;
 
-{ k4: hour by hour, with S from before the cut. }
-procedure TakeK4(const Producer: TProducer; H: Int64; var Figures: TProducerFigures;
-  var Ties: TTies);
+{ k4: hour by hour. }
+function SumsOverHours(const Producer: TProducer; H, S: Int64): TSumsOverHours;
 var
   Hour: Integer;
   M: Int64;
 begin
-  Figures.SumOfM := 0;
-  Figures.SumWorked := 0;
+  Result.M := 0;
+  Result.Worked := 0;
   for Hour := 0 to H - 1 do
   begin
-    M := Smaller(Figures.WholeSum, Producer.Hours[Hour][seriesPossible]);
-    Figures.SumOfM := Figures.SumOfM + M;
-    Figures.SumWorked := Figures.SumWorked
-      + Smaller(M, Producer.Hours[Hour][seriesWorking]);
+    M := Smaller(S, Producer.Hours[Hour][seriesPossible]);
+    Result.M := Result.M + M;
+    Result.Worked := Result.Worked + Smaller(M, Producer.Hours[Hour][seriesWorking]);
   end;
-  if Figures.SumOfM = 0 then
-    Figures.K[4] := Million
+end;
+
+function K4Of(const OverHours: TSumsOverHours): TFraction;
+begin
+  if OverHours.M = 0 then
+    Result := Whole(1)
   else
-    Figures.K[4] := Coefficient(figK4,
-      Whole(Figures.SumWorked) / Whole(Figures.SumOfM), Ties);
+    Result := Whole(OverHours.Worked) / Whole(OverHours.M);
+end;
+
+{ k1 and k4 to a millionth. With fewer rows than two nothing is multiplied by them, and a
+  half is no tie of the sheet. }
+procedure RoundK1AndK4(var Figures: TProducerFigures; var Ties: TTies);
+var
+  TiesOfThese: TTies;
+begin
+  TiesOfThese := [];
+  Figures.K[1] := Coefficient(figK1, Figures.ExactK1, TiesOfThese);
+  Figures.K[4] := Coefficient(figK4, Figures.ExactK4, TiesOfThese);
+  if Figures.RowCount > 1 then Ties := Ties + TiesOfThese;
+end;
+
+procedure TakeK1AndK4(const Sheet: TSheet; ProducerNumber: Integer; T, S: Int64;
+  var Settlement: TSettlement);
+begin
+  with Settlement.Producers[ProducerNumber] do
+  begin
+    ExactK1 := K1Of(NTimesD(OverUse), T);
+    OverHours := SumsOverHours(Sheet.Producers[ProducerNumber],
+      HoursInMonth(Sheet.Header), S);
+    ExactK4 := K4Of(OverHours);
+  end;
+  RoundK1AndK4(Settlement.Producers[ProducerNumber], Settlement.Ties);
 end;
 
 { k5: the hours with a plan. }
@@ -328,23 +457,47 @@ end;
 
 { -------------------------------------------------------------------- rows }
 
-{ Section Rows: one rounding after each coefficient, one after the share of the days
-  covered (request 5 of document 02), one more to the tenth. The share of a row that
-  covers the month is 1 and changes nothing. }
-procedure SettleRow(const Row: TRow; const K: TCoefficients; DaysInMonth: Integer;
-  var Figures: TRowFigures; var Ties: TTies);
+function OneFraction(const Producer: TProducerFigures; Volume: Int64): TFraction;
+begin
+  Result := Whole(Volume) * Producer.ExactK1 * Producer.ExactK4;
+end;
+
+{ Section Rows: one rounding after each coefficient. In a single row (request 8 of document
+  02) volume x k1 x k4 comes first, rounded once, and then the others in their order. }
+procedure TakeProducts(const Producer: TProducerFigures; Volume: Int64;
+  var Products: TCoefficients; var Ties: TTies);
 var
   Number: Integer;
   Running: Int64; { millionths of a megawatt }
+
+  procedure MultiplyBy(Coefficient: Int64);
+  begin
+    Running := Rounded(figProduct, Whole(Running) * Part(Coefficient, Million), Ties);
+  end;
+
 begin
-  Running := Figures.VolumeAfterCut * MillionthsInTenth;
+  Running := Volume;
   for Number := 1 to 10 do
   begin
-    Running := Rounded(figProduct, Whole(Running) * Part(K[Number], Million), Ties);
-    Figures.Products[Number] := Running;
+    if not Producer.AsOneFraction then
+      MultiplyBy(Producer.K[Number])
+    else if Number = 1 then
+      Running := Rounded(figFraction, OneFraction(Producer, Volume), Ties)
+    else if Number <> 4 then
+      MultiplyBy(Producer.K[Number]);
+    Products[Number] := Running;
   end;
+end;
+
+{ After the products one rounding for the share of the days covered (request 5 of document
+  02), one more to the tenth. The share of a row that covers the month is 1 and changes
+  nothing. }
+procedure SettleRow(const Row: TRow; const Producer: TProducerFigures; DaysInMonth: Integer;
+  var Figures: TRowFigures; var Ties: TTies);
+begin
+  TakeProducts(Producer, Figures.VolumeAfterCut * MillionthsInTenth, Figures.Products, Ties);
   Figures.ForDaysCovered := Rounded(figDays,
-    Whole(Running) * Part(DaysCovered(Row), DaysInMonth), Ties);
+    Whole(Figures.Products[10]) * Part(DaysCovered(Row), DaysInMonth), Ties);
   Figures.ActualVolume := Rounded(figVolume,
     Whole(Figures.ForDaysCovered) / Whole(MillionthsInTenth), Ties);
   { The price is for a whole megawatt, the volume stands in tenths. }
@@ -389,43 +542,35 @@ end;
 
 { ------------------------------------------------------------- whole sheet }
 
-procedure SettleProducers(const Sheet: TSheet; var Settlement: TSettlement);
+procedure SettleProducers(const Sheet: TSheet; out Settlement: TSettlement);
 var
   Number: Integer;
   H: Int64;
 begin
+  Settlement := Default(TSettlement);
   H := HoursInMonth(Sheet.Header);
   for Number := 0 to Sheet.Header.ProducerCount - 1 do
   begin
-    TakeSums(Sheet, Number, Settlement.Producers[Number]);
-    CutRows(Sheet, Number, Settlement.Producers[Number].Excess, Settlement);
+    TakeCut(Sheet, Number, Settlement);
     TakeControlAverage(Sheet.Header, Sheet.Producers[Number],
       Settlement.Producers[Number], Settlement.Ties);
-    TakeK1(Sheet.Producers[Number], Settlement.Producers[Number], Settlement.Ties);
+    TakeOverUse(Sheet.Producers[Number], Settlement.Producers[Number], Settlement.Ties);
+    TakeK1AndK4(Sheet, Number, Settlement.Producers[Number].AfterCut.T,
+      Settlement.Producers[Number].AfterCut.S, Settlement);
     TakeK2(Sheet.Producers[Number], H, Settlement.Producers[Number], Settlement.Ties);
-    TakeK4(Sheet.Producers[Number], H, Settlement.Producers[Number], Settlement.Ties);
     TakeK5(Sheet.Producers[Number], H, Settlement.Producers[Number], Settlement.Ties);
     TakeGivenCoefficients(Sheet.Producers[Number], Settlement.Producers[Number]);
   end;
 end;
 
-procedure Settle(const Sheet: TSheet; out Settlement: TSettlement);
+procedure SettleRowsAndConsumers(const Sheet: TSheet; var Settlement: TSettlement);
 var
   Number: Integer;
 begin
-  Settlement.Ties := [];
-  Settlement.TotalPaid := 0;
-  Settlement.TotalCharged := 0;
-
-  SettleProducers(Sheet, Settlement);
-
-  for Number := 0 to Sheet.Header.ConsumerCount - 1 do
-    Settlement.Consumers[Number].Credit := 0;
-
   for Number := 0 to Sheet.Header.RowCount - 1 do
     with Sheet.Rows[Number] do
     begin
-      SettleRow(Sheet.Rows[Number], Settlement.Producers[Producer].K, Sheet.Header.Days,
+      SettleRow(Sheet.Rows[Number], Settlement.Producers[Producer], Sheet.Header.Days,
         Settlement.Rows[Number], Settlement.Ties);
       if not IsSupportRow(Sheet.Rows[Number]) then
         Settlement.Consumers[Consumer].Credit := Settlement.Consumers[Consumer].Credit
@@ -439,6 +584,12 @@ begin
       Settlement.Consumers[Number], Settlement.Ties);
     Settlement.TotalCharged := Settlement.TotalCharged + Settlement.Consumers[Number].Charge;
   end;
+end;
+
+procedure Settle(const Sheet: TSheet; out Settlement: TSettlement);
+begin
+  SettleProducers(Sheet, Settlement);
+  SettleRowsAndConsumers(Sheet, Settlement);
 end;
 
 end.

@@ -14,14 +14,6 @@ uses
   exact, sheets;
 
 type
-  { How a value came to its whole unit. No figure depends on it. }
-  TWayRounded = (wayExact, wayDown, wayHalf, wayUp);
-
-  TRounded = record
-    Figure: QWord;
-    Way: TWayRounded;
-  end;
-
   TConsumerFigures2015 = record
     Excess: TRounded; { hundredths of a percent of the contract volume }
     Factor: Int64;    { tenths }
@@ -69,24 +61,6 @@ const
   FrontWidth = 4;     { the length alone }
   ConsumerResultWidth = 17;
 
-{ --------------------------------------------------------------- rounding }
-
-{ The only place here where a fraction becomes a whole unit. }
-function Rounded(const Value: TFraction): TRounded;
-var
-  ExactHalf: Boolean;
-begin
-  Result.Figure := RoundedHalfUp(Value, ExactHalf);
-  if ExactHalf then
-    Result.Way := wayHalf
-  else if not IsNought(LessNotBelowNought(Value, Whole(Result.Figure))) then
-    Result.Way := wayDown
-  else if not IsNought(LessNotBelowNought(Whole(Result.Figure), Value)) then
-    Result.Way := wayUp
-  else
-    Result.Way := wayExact;
-end;
-
 { -------------------------------------------------------- excess and factor }
 
 { The sheet's own peak over the contract volume, in hundredths of a percent of it. }
@@ -97,11 +71,11 @@ begin
   Contract := Whole(ContractVolume);
   Above := LessNotBelowNought(Whole(Peak), Contract);
   if not IsNought(Contract) then
-    Result := Rounded(Above * Whole(HundredthsInWhole) / Contract)
+    Result := RoundedWithWay(Above * Whole(HundredthsInWhole) / Contract)
   else if IsNought(Above) then
-    Result := Rounded(Whole(0))
+    Result := RoundedWithWay(Whole(0))
   else
-    Result := Rounded(Whole(AboveTwenty));
+    Result := RoundedWithWay(Whole(AboveTwenty));
 end;
 
 function FactorAt(Excess: QWord): Int64;
@@ -126,9 +100,9 @@ begin
   Figures.Excess := ExcessOf(Consumer.ContractVolume, Consumer.Peak);
   Figures.Factor := FactorAt(Figures.Excess.Figure);
   { The factor stands in tenths. }
-  Figures.Volume := Rounded(Whole(Consumer.ContractVolume) * Part(Figures.Factor, 10));
+  Figures.Volume := RoundedWithWay(Whole(Consumer.ContractVolume) * Part(Figures.Factor, 10));
   { The price is for a whole megawatt, the volume, already rounded, stands in tenths. }
-  Figures.Charge := Rounded(
+  Figures.Charge := RoundedWithWay(
     Part(Figures.Volume.Figure, TenthsInMegawatt) * Whole(Consumer.Price));
 end;
 

@@ -47,27 +47,49 @@ begin
   Result := DecimalText(RoundedHalfUp(Excess * Whole(100), ExactHalf), 1000, 3);
 end;
 
+function SumsText(const Sums: TSums): string;
+begin
+  Result := 'T ' + TenthsText(Sums.T) + ', B ' + TenthsText(Sums.B)
+    + ', S ' + TenthsText(Sums.S);
+end;
+
 procedure WriteProducer(var Paper: Text; Number: Integer; const Figures: TProducerFigures);
 begin
   with Figures do
   begin
-    WriteLn(Paper, 'Producer ', Number, ': T ', TenthsText(SupportSum),
-      ', B ', TenthsText(BilateralSum), ', S ', TenthsText(WholeSum),
-      ', excess ', TenthsText(Excess));
+    WriteLn(Paper, 'Producer ', Number, ': rows ', RowCount);
+    WriteLn(Paper, '  before the cut ', SumsText(BeforeCut), ', excess ',
+      TenthsText(Excess));
+    WriteLn(Paper, '  after the cut ', SumsText(AfterCut));
     WriteLn(Paper, '  control hours ', ControlHours, ', their sum ', TenthsText(ControlSum),
       ', average ', HundredthsText(ControlAverage), ', D ', HundredthsText(OverUse.D),
       ', p ', OverUse.P, ', n ', TenthsText(OverUse.N));
-    WriteLn(Paper, '  sum of m ', TenthsText(SumOfM),
-      ', sum of the smaller of m and working ', TenthsText(SumWorked));
+    WriteLn(Paper, '  sum of m ', TenthsText(OverHours.M),
+      ', sum of the smaller of m and working ', TenthsText(OverHours.Worked));
     WriteLn(Paper, '  k1 ', MillionthsText(K[1]), ', k2 ', MillionthsText(K[2]),
       ', k4 ', MillionthsText(K[4]), ', k5 ', MillionthsText(K[5]));
   end;
 end;
 
-procedure WriteRow(var Paper: Text; Number: Integer; const Row: TRow;
-  DaysInMonth: Integer; const Figures: TRowFigures);
+{ k1 and k4 of a single row are in its one fraction. }
+procedure WriteProducts(var Paper: Text; const Producer: TProducerFigures;
+  const Figures: TRowFigures);
 var
   Factor: Integer;
+begin
+  if Producer.AsOneFraction then
+    WriteLn(Paper, '  volume x k1 x k4 ', FractionText(OneFraction(Producer,
+      Figures.VolumeAfterCut * MillionthsInTenth)), ' millionths, rounded ',
+      MillionthsText(Figures.Products[1]));
+  Write(Paper, '  products');
+  for Factor := 1 to 10 do
+    if not (Producer.AsOneFraction and (Factor in [1, 4])) then
+      Write(Paper, ' k', Factor, ' ', MillionthsText(Figures.Products[Factor]));
+  WriteLn(Paper);
+end;
+
+procedure WriteRow(var Paper: Text; Number: Integer; const Row: TRow;
+  const Producer: TProducerFigures; DaysInMonth: Integer; const Figures: TRowFigures);
 begin
   Write(Paper, 'Row ', Number, ': producer ', Row.Producer);
   if IsSupportRow(Row) then
@@ -76,10 +98,7 @@ begin
     Write(Paper, ', bilateral row, consumer ', Row.Consumer);
   WriteLn(Paper, ', volume ', TenthsText(Row.Volume),
     ', after the cut ', TenthsText(Figures.VolumeAfterCut));
-  Write(Paper, '  products');
-  for Factor := 1 to 10 do
-    Write(Paper, ' k', Factor, ' ', MillionthsText(Figures.Products[Factor]));
-  WriteLn(Paper);
+  WriteProducts(Paper, Producer, Figures);
   WriteLn(Paper, '  days ', Row.FirstDay, ' to ', Row.LastDay, ', covered ',
     DaysCovered(Row), ' of ', DaysInMonth, ', product for them ',
     MillionthsText(Figures.ForDaysCovered));
@@ -133,7 +152,8 @@ begin
   for Number := 0 to Sheet.Header.ProducerCount - 1 do
     WriteProducer(Paper, Number, Settlement.Producers[Number]);
   for Number := 0 to Sheet.Header.RowCount - 1 do
-    WriteRow(Paper, Number, Sheet.Rows[Number], Sheet.Header.Days,
+    WriteRow(Paper, Number, Sheet.Rows[Number],
+      Settlement.Producers[Sheet.Rows[Number].Producer], Sheet.Header.Days,
       Settlement.Rows[Number]);
   for Number := 0 to Sheet.Header.ConsumerCount - 1 do
     WriteConsumer(Paper, Number, Sheet.Consumers[Number], Settlement.Consumers[Number]);
