@@ -3,9 +3,9 @@ use mathlib.Core.Path.{_≡_, refl, sym, ap, _∙_}
 use mathlib.Core.Bool.{Bool, true, false, cond, _&&_}
 use mathlib.Core.List.{List, [], _∷_, _++_, append-nil}
 use Prim.Native.Nat.{ℕ, zero, suc, _+_, _-_, _≤_, _<_, min}
-use native.Mathlib.Nat.{sub-le}
+use native.Mathlib.Nat.{add-zero, sub-le}
 use native.Mathlib.Omega.{arith}
-use borrow.Author.Tests.{eqb-true, eq-eqb}
+use borrow.Author.Tests.{eqb-true, eq-eqb, ne-eqb}
 use lib.Dec.{eqb}
 use Rattle.rules.specs.Range.{sum, when}
 use Rattle.rules.specs.Month.{Month}
@@ -28,12 +28,31 @@ use Rattle.rules.specs.Cut.{
   cutInOrder,
   ownRows,
 }
-use Rattle.laws.proofs.Range.{sum-more, sum-same, sum-only, when-both, when-split}
+use Rattle.laws.proofs.Range.{sum-more, sum-mono, sum-same, sum-only, one-found, when-mono, when-both, when-split}
 
--- The turn of a loop over the rows: row j gives as much as it has.
-pub left-more : (m : Month) (p j : ℕ) → leftToCut m p (j + 1) ≡ leftToCut m p j - ownVolume m (sold m) p j
-unfolding leftToCut
-left-more m p j = omega (arith, sum-more (ownVolume m (sold m) p) j)
+-- The turn of a loop over the rows: a row of its own gives as much as it has and counts in T, another's does neither.
+module _ (m : Month) (p j : ℕ) where
+  left-more : leftToCut m p (j + 1) ≡ leftToCut m p j - ownVolume m (sold m) p j
+  unfolding leftToCut
+  left-more = omega (arith, sum-more (ownVolume m (sold m) p) j)
+
+  module _ (own : m .row j .producer ≡ p) where
+    pub left-own : leftToCut m p (j + 1) ≡ leftToCut m p j - m .row j .volume
+    unfolding ownVolume owns when
+    left-own = left-more ∙ rw (eq-eqb _ _ own)
+
+    pub support-own : (v : ℕ → ℕ) → sum (ownSupport m v p) (j + 1) ≡ sum (ownSupport m v p) j + when (support m j) (v j)
+    unfolding ownSupport owns
+    support-own v = sum-more (ownSupport m v p) j ∙ rw (eq-eqb _ _ own)
+
+  module _ (other : m .row j .producer ≡ p → ⊥) where
+    pub left-other : leftToCut m p (j + 1) ≡ leftToCut m p j
+    unfolding ownVolume owns when
+    left-other = left-more ∙ rw (ne-eqb _ _ other) (omega arith)
+
+    pub support-other : (v : ℕ → ℕ) → sum (ownSupport m v p) (j + 1) ≡ sum (ownSupport m v p) j
+    unfolding ownSupport owns when
+    support-other v = sum-more (ownSupport m v p) j ∙ rw (ne-eqb _ _ other, add-zero)
 
 pub cut-le-volume : (m : Month) (j : ℕ) → afterCut m j ≤ m .row j .volume
 unfolding afterCut
@@ -88,7 +107,10 @@ module _ (m : Month) (p : ℕ) where
       go true q e = rw (cut-last, kept (eqb-true _ _ q), e)
       go false q e = append-nil cut ∙ e ∙ ap (cutInOrder (excess m p)) (sym (append-nil own))
 
--- What the cut leaves in all.
+-- What the cut leaves in all of producer p's rows: T + B less the excess.
+abbrev pub left : Month → ℕ → ℕ
+left m p = supportVolume m (sold m) p + bilateralVolume m (sold m) p - excess m p
+
 module _ (m : Month) (p : ℕ) where
   -- A producer's support and bilateral rows are all its rows.
   pub own-split : (v : ℕ → ℕ) (n : ℕ) → sum (ownVolume m v p) n ≡ sum (ownSupport m v p) n + sum (ownBilateral m v p) n
@@ -112,10 +134,23 @@ module _ (m : Month) (p : ℕ) where
       go false q e = omega (arith, e)
 
   -- S after the cut.
-  pub summed-after : summedCapacity m (afterCut m) p ≡ supportVolume m (sold m) p + bilateralVolume m (sold m) p - excess m p + m .producer p .deductible
+  pub summed-after : summedCapacity m (afterCut m) p ≡ left m p + m .producer p .deductible
   unfolding summedCapacity supportVolume bilateralVolume
   summed-after =
       let n = m .header .rows in omega (arith, own-split (afterCut m) n, own-split (sold m) n, total-after n)
+
+  -- The cut adds nothing to T.
+  pub support-le : supportVolume m (afterCut m) p ≤ supportVolume m (sold m) p
+  unfolding supportVolume ownSupport
+  support-le = sum-mono _ _ refl (λ j l. when-mono _ (cut-le-volume m j))
+
+  -- Without bilateral rows all of it is T.
+  pub support-all : bilateralVolume m (sold m) p ≡ 0 → supportVolume m (afterCut m) p ≡ left m p
+  unfolding supportVolume bilateralVolume
+  support-all none =
+      let n = m .header .rows in
+      let less = sum-mono (ownBilateral m (afterCut m) p) (ownBilateral m (sold m) p) {n = n} refl (λ j l. unfold ownBilateral in when-mono _ (cut-le-volume m j)) in
+      omega (arith, own-split (afterCut m) n, own-split (sold m) n, total-after n, less, none)
 
   -- Where there is no excess T is as it was.
   pub support-kept : excess m p ≡ 0 → supportVolume m (afterCut m) p ≡ supportVolume m (sold m) p
@@ -127,14 +162,14 @@ module _ (m : Month) (p : ℕ) where
       kept j false q = unfold when in refl
 
 -- A producer's single row: its volume is T + B, and of T and B the one that its kind has.
-module _ (m : Month) (p : ℕ) (one : single m p ≡ true) (j : ℕ) (l : j < m .header .rows) (own : m .row j .producer ≡ p) where
+module _ (m : Month) (p : ℕ) (alone : single m p ≡ true) (j : ℕ) (l : j < m .header .rows) (own : m .row j .producer ≡ p) where
   its : owns m p j ≡ true
   unfolding owns
   its = eq-eqb _ _ own
 
   counted : rowCount m p ≡ 1
   unfolding single
-  counted = eqb-true _ _ one
+  counted = eqb-true _ _ alone
 
   pub single-own : (v : ℕ → ℕ) → sum (ownVolume m v p) (m .header .rows) ≡ v j
   unfolding ownVolume rowCount
@@ -151,5 +186,19 @@ module _ (m : Month) (p : ℕ) (one : single m p ≡ true) (j : ℕ) (l : j < m 
   single-summed v = omega (arith, own-split m p v (m .header .rows), single-own v)
 
   -- All of the excess is taken from it.
-  pub single-after : afterCut m j ≡ m .row j .volume - excess m p
-  single-after = omega (arith, single-own (afterCut m), single-own (sold m), total-after m p (m .header .rows))
+  pub single-after : afterCut m j ≡ left m p
+  unfolding supportVolume bilateralVolume
+  single-after =
+      let n = m .header .rows in omega (arith, single-own (afterCut m), total-after m p n, own-split m p (sold m) n)
+
+-- A single row that is bilateral leaves T nothing.
+pub single-bilateral : (m : Month) (p : ℕ) → single m p ≡ true → 0 < bilateralVolume m (sold m) p → supportVolume m (afterCut m) p ≡ 0
+unfolding single rowCount owns
+single-bilateral m p alone some = one-found (owns m p) (m .header .rows) (eqb-true _ _ alone) (λ j l t. of-kind j l (eqb-true _ _ t) (support m j) refl)
+  where
+    of-kind : (j : ℕ) → j < m .header .rows → m .row j .producer ≡ p → (b : Bool) → support m j ≡ b → supportVolume m (afterCut m) p ≡ 0
+    of-kind j l own true kind = absurd (unfold summedCapacity in omega (arith, single-summed m p alone j l own (sold m), supported, some))
+      where
+        supported : supportVolume m (sold m) p ≡ m .row j .volume
+        supported = single-support m p alone j l own (sold m) ∙ unfold when in rw kind
+    of-kind j l own false kind = single-support m p alone j l own (afterCut m) ∙ unfold when in rw kind

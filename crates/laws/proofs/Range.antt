@@ -128,6 +128,16 @@ module _ (test : ℕ → Bool) where
       earlier true q b rest = absurd (omega (arith, q, one-passed i n b t))
       earlier false q b rest = omega (arith, rest (omega (arith, q)))
 
+  -- And there is such a place.
+  pub one-found : {A : Type 0} (n : ℕ) → passed n ≡ 1 → ((i : ℕ) → i < n → test i ≡ true → A) → A
+  unfolding sum when
+  one-found zero e with-it = absurd (omega (arith, e))
+  one-found {A} (suc n) e with-it = go (test n) refl e (λ q. one-found n q (λ i l. with-it i (omega arith)))
+    where
+      go : (b : Bool) → test n ≡ b → passed n + cond b 1 0 ≡ 1 → (passed n ≡ 1 → A) → A
+      go true t q rest = with-it n (omega arith) t
+      go false t q rest = rest (omega (arith, q))
+
 pub both : (a b : Bool) → (a && b) ≡ true → (a ≡ true) × (b ≡ true)
 both true b e = (refl, e)
 both false b e = absurd (true≢false (sym e))

@@ -1,35 +1,36 @@
--- k1 and k4 of a producer, from the control average and the sums over the stretch of its hours. Assumes nothing.
-use mathlib.Core.Path.{_≡_, refl, ap, ap₂, _∙_}
-use mathlib.Core.Bool.{true}
+-- A producer's hours: k4's sums, the control average and their bounds, from the stretch in which they stand. Assumes nothing.
+use mathlib.Core.Path.{_≡_, refl, sym, ap, ap₂, _∙_}
+use mathlib.Core.Bool.{true, false}
 use mathlib.Core.List.{List}
 use Prim.Native.Nat.{ℕ, _+_, _*_, _≤_, _<_, min}
 use native.Mathlib.Omega.{arith}
-use borrow.Author.Tests.{le-leb}
+use borrow.Author.Tests.{le-leb, ltb-false}
 use lib.ListN.{length, take, drop, length-take, length-drop}
 use Rattle.rules.specs.declared.Layout.{Layout}
-use Rattle.rules.specs.declared.Ratio.{Ratio}
 use Rattle.rules.specs.declared.Series.{Series}
 use Rattle.rules.specs.declared.HourSeries.{HourSeries}
-use Rattle.rules.specs.declared.Stated.{Stated}
+use Rattle.rules.specs.Range.{sum}
 use Rattle.rules.specs.Month.{hours}
-use Rattle.rules.specs.Sheet.{hoursWidth, hoursAt, producerAt, statedOf, power, hourSeries, producerUnder}
+use Rattle.rules.specs.Sheet.{hoursWidth, hoursAt, power, hourSeries, producerUnder}
 use Rattle.rules.specs.Outcome.{within}
 use Rattle.rules.specs.Units.{hundredth}
 use Rattle.rules.specs.ControlHours.{controlAverage}
 use Rattle.rules.specs.ControlTable.{tableDay}
-use Rattle.rules.specs.Coefficients.{ratio, millionthsOf, overuse, penalty, lessPenalty, asked, met, exactK1, exactK4, k1}
-use Rattle.laws.proofs.Range.{sum-same}
+use Rattle.rules.specs.Coefficients.{asked, met}
+use Rattle.rules.specs.Refusals.{oneOf, tooHigh, highHour}
+use Rattle.laws.proofs.Range.{sum-same, sum-le, any-clear, or-left}
 use Rattle.laws.proofs.Fields.{read-part}
 use Rattle.laws.proofs.Sheet.{Spans, series-span, span-ends}
 use Rattle.calendar.specs.Days.{dayOn}
 use Rattle.sheet.specs.Whole.{stretchIn}
 use Rattle.sheet.proofs.Whole.{stretch-whole}
+use Rattle.refusals_sheet.proofs.Hours.{stretch-high}
 use Rattle.hours.specs.declared.k4.K4.{K4}
 use Rattle.hours.specs.Series.{stands, powerIn}
 use Rattle.hours.specs.Sums.{k4In}
 use Rattle.hours.specs.Control.{powerControl, averageOf}
 use Rattle.hours.proofs.Known.{average-known}
-use Rattle.producers.specs.Terms.{penaltyFrom}
+use Rattle.producers.specs.Terms.{mostMet, highIn}
 
 module _ (l : Layout) (s : List ℕ) (p : ℕ) (fits : hoursAt l p + hoursWidth (l .header) ≤ length s) {part : List ℕ} (lent : part ≡ within (stretchIn l (length s) p) s) where
   there : part ≡ take (hoursWidth (l .header)) (drop (hoursAt l p) s)
@@ -70,25 +71,33 @@ module _ (l : Layout) (s : List ℕ) (p : ℕ) (fits : hoursAt l p + hoursWidth 
     unfolding met
     met-read i b = ap₂ (λ (m w : ℕ). min m w) (asked-read i b) (read (hourSeries l .working) working-spans i b)
 
-    pub k4-known : {of : HourSeries} {summed : ℕ} {k : K4} {r : Ratio} → of ≡ hourSeries l → summed ≡ S
-        → k ≡ k4In part (of .working) (of .possible) (l .header .days) summed → r ≡ ratio (k .met .0) (k .asked .0)
-        → r ≡ exactK4 (l .header) (producerUnder l s p) S
-    unfolding k4In exactK4
-    k4-known hour total sums is =
-        rw (is, sums, hour, total, standing (hourSeries l .working) working-spans, standing (hourSeries l .possible) possible-spans, sum-same _ _ {n = hours (l .header)} refl met-read, sum-same _ _ {n = hours (l .header)} refl asked-read)
+    pub sums-known : {of : HourSeries} {k : K4} → of ≡ hourSeries l → k ≡ k4In part (of .working) (of .possible) (l .header .days) S
+        → (k .met .0 ≡ sum (met (producerUnder l s p) S) (hours (l .header))) × (k .asked .0 ≡ sum (asked (producerUnder l s p) S) (hours (l .header)))
+    unfolding k4In
+    sums-known hour sums =
+        let w = standing (hourSeries l .working) working-spans in
+        let q = standing (hourSeries l .possible) possible-spans in (
+          rw (sums, hour, w, q) (sum-same _ _ {n = hours (l .header)} refl met-read),
+          rw (sums, hour, w, q) (sum-same _ _ {n = hours (l .header)} refl asked-read),
+        )
 
-  -- k1.
+  -- The control average.
   module _ (few : l .header .days ≤ 31) (from : 1 ≤ l .header .weekday) (to : l .header .weekday ≤ 7) (on : ℕ) (days : (d : ℕ) → dayOn on d ≡ tableDay (l .header) d) where
-    average : {of : HourSeries} {a : ℕ} → of ≡ hourSeries l → a ≡ averageOf hundredth (powerControl part (of .outside) (l .header .days) on)
+    pub average-is : {of : HourSeries} {a : ℕ} → of ≡ hourSeries l → a ≡ averageOf hundredth (powerControl part (of .outside) (l .header .days) on)
         → a ≡ controlAverage hundredth (l .header) (producerUnder l s p .outsideUse)
-    average hour is =
+    average-is hour is =
         is
         ∙ ap (λ (x : HourSeries). averageOf hundredth (powerControl part (x .outside) (l .header .days) on)) hour
         ∙ average-known (l .header) few from to on days (powerIn part (hourSeries l .outside)) (producerUnder l s p .outsideUse)
         (standing (hourSeries l .outside) outside-spans) (read (hourSeries l .outside) outside-spans) hundredth
 
-    pub k1-known : {of : HourSeries} {a r : ℕ} {x : Stated} (T : ℕ) → of ≡ hourSeries l → a ≡ averageOf hundredth (powerControl part (of .outside) (l .header .days) on) → x ≡ statedOf s (producerAt l p)
-        → r ≡ millionthsOf (lessPenalty T (penaltyFrom a (x .deductible)))
-        → r ≡ k1 (l .header) (producerUnder l s p) T
-    unfolding k1 exactK1 penalty overuse
-    k1-known T hour averaged stated is = rw (is, average hour averaged, stated)
+-- Where no power is above the ceiling, no more is met than the ceiling in every hour of 31 days.
+pub met-fits : (l : Layout) (s : List ℕ) (p S : ℕ) → hoursAt l p + hoursWidth (l .header) ≤ length s → l .header .days ≤ 31 → highIn l s p ≡ false
+    → sum (met (producerUnder l s p) S) (hours (l .header)) ≤ mostMet
+met-fits l s p S fits few none = omega (arith, sum-le (met (producerUnder l s p) S) 100000 (hours (l .header)) each, few)
+  where
+    each : (i : ℕ) → i < hours (l .header) → met (producerUnder l s p) S i ≤ 100000
+    each i b =
+        let low : producerUnder l s p .working i ≤ 100000 =
+        unfold highHour oneOf tooHigh in ltb-false 100000 _ (or-left _ _ (any-clear (highHour (producerUnder l s p)) (hours (l .header)) (sym (stretch-high l s p fits) ∙ none) i b)) in
+        unfold met in omega (arith, low)

@@ -1,2 +1,3 @@
+pub mod After
 pub mod Cuts
 pub mod Hours

@@ -1,1 +1,2 @@
+pub mod After
 pub mod Terms

@@ -1,6 +1,7 @@
--- What a producer's rows are settled by: what is left to cut of them, and k1 to k10.
-use Prim.Native.Nat.{ℕ, _-_, _*_, min, max}
-use mathlib.Core.Bool.{cond, not, _||_}
+-- What a producer's rows are settled by: what is left to cut of them, and what they are multiplied by.
+use Prim.Native.Nat.{ℕ, _-_, _*_, _≤_, min, max}
+use mathlib.Core.Path.{_≡_}
+use mathlib.Core.Bool.{Bool, true, false, cond, not, _||_}
 use mathlib.Core.List.{List, [], _∷_}
 use lib.ListN.{length, replicate}
 use lib.Dec.{ltb}
@@ -9,17 +10,26 @@ use Rattle.rules.specs.declared.Layout.{Layout}
 use Rattle.rules.specs.declared.Stated.{Stated}
 use Rattle.rules.specs.declared.Ratio.{Ratio}
 use Rattle.rules.specs.Month.{Month, hours}
-use Rattle.rules.specs.Sheet.{sheetLength, monthUnder}
-use Rattle.rules.specs.Units.{inHundredths}
+use Rattle.rules.specs.Sheet.{sheetLength, producerUnder, monthUnder}
+use Rattle.rules.specs.Units.{one, hundredth, inHundredths}
+use Rattle.rules.specs.ControlHours.{controlAverage}
 use Rattle.rules.specs.Bands.{bandOf, thousandths}
-use Rattle.rules.specs.Cut.{leftToCut}
+use Rattle.rules.specs.Cut.{leftToCut, single}
 use Rattle.rules.specs.ControlTable.{inTable}
-use Rattle.rules.specs.Coefficients.{share, millionthsOf, coefficients}
-use Rattle.laws.proofs.Arrays.{Agrees, filled}
-use Rattle.units.specs.Sums.{tenths}
+use Rattle.rules.specs.Coefficients.{share, metOver, exactK4, k2, fromK5, coefficients}
+use Rattle.rules.specs.Rows.{begun}
+use Rattle.rules.specs.Refusals.{tooHigh}
 use Rattle.rules.specs.Outcome.{within}
+use Rattle.laws.specs.Bounds.{mostWord}
+use Rattle.laws.specs.ShortForm.{kept, inShort}
+use Rattle.laws.proofs.Arrays.{Agrees, filled}
+use Rattle.laws.proofs.Cut.{left}
+use Rattle.units.specs.declared.Millionths.{Millionths}
+use Rattle.units.specs.Sums.{tenths, millionths}
+use Rattle.row_figures.specs.declared.Factors.{Factors}
 use Rattle.sheet.specs.Whole.{stretchIn}
 use Rattle.refusals_powers.specs.Powers.{highPowers}
+use Rattle.hours.specs.declared.figures.HourFigures.{HourFigures}
 use Rattle.producers.specs.declared.OwnTerms.{OwnTerms}
 use Rattle.producers.specs.declared.Terms.{Terms}
 
@@ -32,13 +42,13 @@ abbrev pub penaltyFrom : ℕ → ℕ → ℕ
 penaltyFrom average deductible =
     bandOf (thousandths (average - inHundredths deductible) (inHundredths deductible)) * (average - inHundredths deductible)
 
--- k1 to k10 in order, from a producer's stated figures, from k1, and from k4 before it is rounded. [Coefficients]
-abbrev pub ksFrom : Header → Stated → ℕ → Ratio → List ℕ
+-- k1 to k10 in order, from a producer's stated figures, k1 and k4. [Coefficients]
+abbrev pub ksFrom : Header → Stated → ℕ → ℕ → List ℕ
 ksFrom h x k1 k4 =
     k1
     ∷ share (hours h - max (x .upward) (x .downward)) (hours h)
     ∷ x .k3
-    ∷ millionthsOf k4
+    ∷ k4
     ∷ share (hours h - x .plan) (hours h)
     ∷ x .k6
     ∷ x .k7
@@ -47,17 +57,43 @@ ksFrom h x k1 k4 =
     ∷ x .k10
     ∷ []
 
+-- What is met in a month at most, where no power is above the ceiling: 744 hours of 10,000.0. A single row's fraction then fits 64 bits.
+abbrev pub mostMet : ℕ
+mostMet = 74400000
+
+-- A single row's volume after the cut × k1 × k4, from n × D and k4, in its short form; nothing of a volume above the ceiling. [Requests, 8]
+unfoldable pub singleProduct : Bool → ℕ → ℕ → Ratio → ℕ
+singleProduct support volume penalty k4 = cond (tooHigh volume) 0 (inShort (kept support volume penalty) k4)
+
+-- What producer p's rows are multiplied by: a single row begins with what the definitions have for its volume after the cut, and has 1 in the
+-- place of k1 and k4. [Rows; Requests, 8]
+abbrev pub productOf : Month → ℕ → ℕ
+productOf m p = cond (single m p) (cond (tooHigh (left m p)) 0 (begun m p (left m p))) 0
+
+abbrev pub ksOf : Month → ℕ → List ℕ
+ksOf m p = cond (single m p) (one ∷ k2 (m .header) (m .producer p) ∷ m .producer p .k3 ∷ one ∷ fromK5 (m .header) (m .producer p)) (coefficients m p)
+
+-- Those of a producer with a single row, and of one with more or none.
+abbrev pub singleFactors : Millionths → List ℕ → Factors
+singleFactors product ks = record { single = true; product = product; ks = ks }
+
+abbrev pub sharedFactors : List ℕ → Factors
+sharedFactors ks = record { single = false; product = millionths 0; ks = ks }
+
+abbrev pub factorsOf : Month → ℕ → Factors
+factorsOf m p = record { single = single m p; product = millionths (productOf m p); ks = ksOf m p }
+
 -- Producer p when row j's turn comes. [Cut; Coefficients]
 abbrev pub termsAt : Month → ℕ → ℕ → Terms
-termsAt m p j = record { excess = tenths (leftToCut m p j); ks = coefficients m p }
+termsAt m p j = record { excess = tenths (leftToCut m p j); by = factorsOf m p }
 
 -- Past the end of an array of terms.
 abbrev pub noTerms : Terms
-noTerms = record { excess = tenths 0; ks = [] }
+noTerms = record { excess = tenths 0; by = sharedFactors [] }
 
 -- In the array, where there is no producer: nothing to cut, and coefficients of 0.
 abbrev pub zeroTerms : Terms
-zeroTerms = record { excess = tenths 0; ks = replicate 10 0 }
+zeroTerms = record { excess = tenths 0; by = sharedFactors (replicate 10 0) }
 
 -- How many producers of a sheet have terms: at most six, and none in a month that the table of control weekdays does not have or in a sheet
 -- that ends too soon.
@@ -72,13 +108,20 @@ termsBelow m j n = filled zeroTerms (λ p. termsAt m p j) n
 abbrev pub Known : Month → ℕ → ℕ → List Terms → Type 0
 Known m j n terms = Agrees 6 noTerms (termsBelow m j n) terms
 
+-- Some power of producer p's hours is above the ceiling.
+abbrev pub highIn : Layout → List ℕ → ℕ → Bool
+highIn layout s p = highPowers (within (stretchIn layout (length s) p) s)
+
+-- What the figures of producer p's hours are, where no power is: k4 before it is rounded, for a summed capacity S, and the control average.
+pub record HoursKnown (layout : Layout) (s : List ℕ) (p S : ℕ) (f : HourFigures) : Type 0 where
+  pub k4 : metOver (f .sums .met .0) (f .sums .asked .0) ≡ exactK4 (layout .header) (producerUnder layout s p) S
+  pub average : f .average .0 ≡ controlAverage hundredth (layout .header) (producerUnder layout s p .outsideUse)
+  pub few : f .average .0 ≤ 10 * mostWord
+  pub fits : f .sums .met .0 ≤ mostMet
+
 -- Producer p before the first row: whether its hours have a power above the ceiling, and its terms where they have none.
 abbrev pub ownTerms : Layout → List ℕ → ℕ → OwnTerms
-ownTerms layout s p =
-    record {
-      high = highPowers (within (stretchIn layout (length s) p) s);
-      terms = cond (highPowers (within (stretchIn layout (length s) p) s)) zeroTerms (termsAt (monthUnder layout s) p 0);
-    }
+ownTerms layout s p = record { high = highIn layout s p; terms = cond (highIn layout s p) zeroTerms (termsAt (monthUnder layout s) p 0) }
 
 -- All of them.
 abbrev pub termsOf : Layout → List ℕ → ℕ → Terms

@@ -1,10 +1,11 @@
-// k1: outside use beyond the deductible capacity, in hundredths of a megawatt.
+// k1: outside use beyond the deductible capacity, in hundredths of a megawatt; and what it leaves of a single row.
 ghost use mathlib.Core.Path.{_≡_};
 ghost use Prim.Native.Nat.{_-_, _*_, _≤_};
-ghost use Rattle.rules.specs.Units.{inThousandths};
+ghost use Rattle.rules.specs.Units.{tenthsCeiling, inThousandths};
 ghost use Rattle.rules.specs.Bands.{bandOf, thousandths};
 ghost use Rattle.rules.specs.Coefficients.{lessPenalty, millionthsOf};
 ghost use Rattle.laws.specs.Bounds.{mostWord};
+ghost use Rattle.laws.specs.ShortForm.{kept};
 ghost use Rattle.volumes.specs.Volumes.{mostVolume};
 ghost use Rattle.producers.specs.Terms.{penaltyFrom};
 use bands::factor;
@@ -15,8 +16,8 @@ use units::Tenths;
 use units::less;
 use units::nearest;
 
-// Thousandths of a megawatt: n × D, and T beside it.
-struct Thousandths(u64);
+// Thousandths of a megawatt: n × D, and volumes beside it.
+pub(crate) struct Thousandths(pub(crate) u64);
 
 impl Thousandths {
     fn of_tenths(v: Tenths) -> Thousandths
@@ -34,7 +35,7 @@ impl Thousandths {
     }
 }
 
-// n × D.
+// n × D, of D and deductible capacity.
 fn penalty(over: Hundredths, deductible: Hundredths) -> Thousandths
     requires { ⌜ over .0 ≤ 10 * mostWord ⌝ }
     ensures { λ r. ⌜ r .0 ≡ bandOf (thousandths (over .0) (deductible .0)) * over .0 ⌝ }
@@ -42,8 +43,17 @@ fn penalty(over: Hundredths, deductible: Hundredths) -> Thousandths
     Thousandths((factor(thousandths(over.0 * 1000, deductible.0)) as u64) * over.0)
 }
 
-// 1 - n × D / T, rounded. A hundred is taken out of T in thousandths and out of the million, so that the product fits.
-fn less_penalty(support: Tenths, penalty: Thousandths) -> u64
+// n × D, from the control average of outside use.
+pub(crate) fn penalty_of(average: Hundredths, deductible: u32) -> Thousandths
+    requires { ⌜ average .0 ≤ 10 * mostWord ⌝ }
+    ensures { λ r. ⌜ r .0 ≡ penaltyFrom (average .0) deductible ⌝ }
+{
+    let own = Hundredths::of_tenths(deductible);
+    penalty(average.less(own), own)
+}
+
+// k1: 1 - n × D / T, rounded. A hundred is taken out of T in thousandths and out of the million, so that the product fits.
+pub(crate) fn less_penalty(support: Tenths, penalty: Thousandths) -> u64
     requires { ⌜ support .0 ≤ mostVolume ⌝ }
     ensures { λ r. ⌜ r ≡ millionthsOf (lessPenalty (support .0) (penalty .0)) ⌝ }
 {
@@ -57,11 +67,18 @@ fn less_penalty(support: Tenths, penalty: Thousandths) -> u64
     nearest(left.0 * (ONE / 100), support.0)
 }
 
-// k1, from the control average of outside use.
-pub(crate) fn k1_of(average: Hundredths, deductible: u32, support: Tenths) -> u64
-    requires { ⌜ (average .0 ≤ 10 * mostWord) × (support .0 ≤ mostVolume) ⌝ }
-    ensures { λ r. ⌜ r ≡ millionthsOf (lessPenalty (support .0) (penaltyFrom (average .0) deductible)) ⌝ }
+// What n × D leaves of a single row with a volume after the cut: of a support row the volume less n × D; of a bilateral row, which has T 0, all
+// or nothing.
+pub(crate) fn kept(support: bool, volume: Tenths, penalty: Thousandths) -> Thousandths
+    requires { ⌜ volume .0 ≤ tenthsCeiling ⌝ }
+    ensures { λ r. ⌜ (r .0 ≡ kept support (volume .0) (penalty .0)) × (r .0 ≤ inThousandths tenthsCeiling) ⌝ }
 {
-    let own = Hundredths::of_tenths(deductible);
-    less_penalty(support, penalty(average.less(own), own))
+    let all = Thousandths::of_tenths(volume);
+    if support {
+        return all.less(penalty);
+    }
+    if penalty.0 == 0 {
+        return all;
+    }
+    Thousandths(0)
 }

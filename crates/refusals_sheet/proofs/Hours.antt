@@ -52,7 +52,7 @@ module _ (layout : Layout) (s : List ℕ) (p : ℕ) where
       go false e = sym (any-groups highAt 3 (hours (layout .header))) ∙ any-same _ _ (hours (layout .header)) (λ i l. together i (by-hour layout e))
       go true e = sym (any-columns highAt 3 (hours (layout .header))) ∙ any-same _ _ (hours (layout .header)) (λ i l. apart i (by-column layout e))
 
-  stretch-high : hoursAt layout p + hoursWidth (layout .header) ≤ length s
+  pub stretch-high : hoursAt layout p + hoursWidth (layout .header) ≤ length s
       → highPowers (within (stretchIn layout (length s) p) s) ≡ any (highHour (producerUnder layout s p)) (hours (layout .header))
   unfolding within
   stretch-high fits =

@@ -9,7 +9,7 @@ use Rattle.rules.specs.declared.Row.{Row}
 use Rattle.rules.specs.Range.{when}
 use Rattle.rules.specs.Month.{Month}
 use Rattle.rules.specs.Sheet.{sheetLength, monthUnder}
-use Rattle.rules.specs.Cut.{supportVolume, bilateralVolume}
+use Rattle.rules.specs.Cut.{sold, supportVolume, bilateralVolume, rowCount}
 use Rattle.units.specs.Sums.{tenths}
 use Rattle.volumes.specs.declared.Volumes.{Volumes}
 
@@ -21,15 +21,16 @@ mostVolume = 1095216660225
 abbrev pub Fits : Volumes → Type 0
 Fits v = (v .support .0 ≤ mostVolume) × (v .bilateral .0 ≤ mostVolume)
 
--- T and B.
+-- T and B of the volumes that the sheet has, and the count of rows.
 abbrev pub volumesOf : Month → ℕ → Volumes
-volumesOf m p = record { support = tenths (supportVolume m p); bilateral = tenths (bilateralVolume m p) }
+volumesOf m p =
+    record { support = tenths (supportVolume m (sold m) p); bilateral = tenths (bilateralVolume m (sold m) p); rows = rowCount m p }
 
 -- Before the first row, and past the end of an array.
 abbrev pub noVolumes : Volumes
-noVolumes = record { support = tenths 0; bilateral = tenths 0 }
+noVolumes = record { support = tenths 0; bilateral = tenths 0; rows = 0 }
 
--- T and B in a sheet; none where it ends before its length under the layout.
+-- The same in a sheet; none where it ends before its length under the layout.
 unfoldable pub volumesIn : Layout → List ℕ → ℕ → Volumes
 volumesIn l s p = cond (ltb (length s) (sheetLength l)) noVolumes (volumesOf (monthUnder l s) p)
 
@@ -39,4 +40,5 @@ withRow v r =
     record {
       support = tenths (v .support .0 + when (eqb (r .consumer) 255) (r .volume));
       bilateral = tenths (v .bilateral .0 + when (not (eqb (r .consumer) 255)) (r .volume));
+      rows = v .rows + 1;
     }

@@ -1,4 +1,4 @@
-// What the rows of a sheet add up to for each producer.
+// What the rows of a sheet add up to for each producer, and how many it has.
 ghost use mathlib.Core.Path.{_≡_};
 ghost use Prim.Native.Nat.{ℕ, _<_};
 ghost use lib.ListN.{getD};
@@ -10,10 +10,11 @@ use rules::Row;
 use sheet::row;
 use units::Tenths;
 
-// The volumes of a producer's support rows (T) and bilateral rows (B).
+// The volumes of a producer's support rows (T) and bilateral rows (B), and how many rows it has.
 pub struct Volumes {
     pub support: Tenths,
     pub bilateral: Tenths,
+    pub rows: u8,
 }
 
 // The volumes of six producers, as many as a sheet may have.
@@ -23,26 +24,29 @@ pub struct AllVolumes {
 
 // A producer's volumes with one of its rows more.
 fn with_row(v: Volumes, r: Row) -> Volumes
-    requires { ⌜ Fits v ⌝ }
+    requires { ⌜ Fits v × (v .rows < 255) ⌝ }
     ensures { λ w. ⌜ w ≡ withRow v r ⌝ }
 {
     let volume = Tenths::stated(r.volume);
     let support = v.support;
     let bilateral = v.bilateral;
+    let rows = v.rows + 1;
     if r.consumer == 255 {
         Volumes {
             support: support.plus(volume),
             bilateral,
+            rows,
         }
     } else {
         Volumes {
             support,
             bilateral: bilateral.plus(volume),
+            rows,
         }
     }
 }
 
-// T and B of six producers. A row of another producer counts for none, and no row where the sheet ends too soon.
+// T, B and the rows of six producers. A row of another producer counts for none, and no row where the sheet ends too soon.
 pub fn row_volumes(s: &[u8], layout: Layout) -> AllVolumes
     ensures { λ r. ⌜ r .of ≡ listed (volumesIn layout (now (s .entry))) 6 ⌝ }
     ensures fits { λ r. ⌜ ((p : ℕ) → p < 6 → Fits (getD (r .of) p noVolumes)) ⌝ }
@@ -50,6 +54,7 @@ pub fn row_volumes(s: &[u8], layout: Layout) -> AllVolumes
     let none = Volumes {
         support: Tenths(0),
         bilateral: Tenths(0),
+        rows: 0,
     };
     let mut of = [none; 6];
     if s.len() < sheet_length(layout) {

@@ -33,6 +33,9 @@ Inv-loop s layout all₀ control volumes n p₀ all p =
 abbrev μ-loop : tie.MeasureT-loop
 μ-loop s layout all₀ control volumes n p₀ all p = n - p
 
+no-terms-requires : tie.Need-no-terms-requires Inv-loop μ-loop
+no-terms-requires c κs = search needs
+
 control-days-requires : tie.Need-control-days-requires Inv-loop μ-loop
 control-days-requires c κs = search needs
 
@@ -46,7 +49,7 @@ loop-holds : tie.Need-loop-holds Inv-loop μ-loop
 loop-holds c =
     let n = c .with-terms .ensures in
     let v = c .before .row-volumes .ensures in (
-      filled-none 6 noTerms zeroTerms _,
+      rw (c .before .before .before .no-terms .ensures) (filled-none 6 noTerms zeroTerms _),
       zero-le,
       (λ b. (agrees-as 6 noVolumes (λ p q. volumes-whole _ _ (n .2 b .2) p) (listed-agrees (v .0)), v .1)),
       n .0,
@@ -71,8 +74,8 @@ terms-of-requires c κs =
     let some = inv .5 (omega arith) in
     let volumes = inv .2 (omega arith) in
     let p : c .before .before .loop .p < 6 = omega arith in
-    let h = c .before .before .before .before .before .before .before .args .layout in (
-      (some .0, le-trans (hours-inside h (c .before .before .loop .p) (omega (arith, some .1))) (some .2)),
+    let h = c .before .before .before .before .before .before .before .before .args .layout in (
+      (some .0, le-trans (hours-inside h (c .before .before .loop .p) (omega (arith, some .1))) (some .2), some .2),
       ((volumes .0 .each _ p, volumes .1 _ p), (some .3, some .4, inv .6)),
     )
 
@@ -97,7 +100,7 @@ loop-again c =
 returns : tie.Need-returns Inv-loop μ-loop
 returns c =
     let inv = c .before .loop .inv in
-    let a = c .before .before .before .before .before .before .args in
+    let a = c .before .before .before .before .before .before .before .args in
     let end : c .before .loop .p ≡ withTerms (a .layout) (a .s .now) = omega arith in
     (agrees-listed (rw end at (inv .0)), rw end at (inv .7))
 
@@ -107,6 +110,7 @@ all-terms-spec =
     (tie.spec
     Inv-loop
     μ-loop
+    no-terms-requires
     control-days-requires
     row-volumes-requires
     with-terms-requires

@@ -15,11 +15,11 @@ bids-requires c κs = search needs
 cast-t8 : tie.Need-cast-t8
 cast-t8 c = search needs
 
-millionths-of-requires : tie.Need-millionths-of-requires
-millionths-of-requires c κs = search needs
-
 plans-requires : tie.Need-plans-requires
 plans-requires c κs = search needs
+
+cast-t10 : tie.Need-cast-t10
+cast-t10 c = search needs
 
 cast-t11 : tie.Need-cast-t11
 cast-t11 c = search needs
@@ -28,16 +28,13 @@ cast-t12 : tie.Need-cast-t12
 cast-t12 c = search needs
 
 cast-t13 : tie.Need-cast-t13
-cast-t13 c = search needs
+cast-t13 c = omega (arith, c .struct-known6 .given)
 
 cast-t14 : tie.Need-cast-t14
-cast-t14 c = omega (arith, c .struct-known6 .given)
-
-cast-t15 : tie.Need-cast-t15
-cast-t15 c = omega (arith, c .struct-known7 .given)
+cast-t14 c = omega (arith, c .struct-known7 .given)
 
 returns : tie.Need-returns
-returns c = rw (c .before .before .before .before .before .before .before .before .bids .ensures, c .before .before .before .before .before .before .millionths-of .ensures, c .before .before .before .before .before .plans .ensures)
+returns c = rw (c .before .before .before .before .before .before .before .bids .ensures, c .before .before .before .before .before .plans .ensures)
 
 pub ks-of-spec : {M : Type 1} → statement M
 ks-of-spec =
@@ -47,11 +44,10 @@ ks-of-spec =
     mul-hours
     bids-requires
     cast-t8
-    millionths-of-requires
     plans-requires
+    cast-t10
     cast-t11
     cast-t12
     cast-t13
     cast-t14
-    cast-t15
     returns)

@@ -5,11 +5,11 @@ use mathlib.Core.Logic.{⊎-elim}
 use Prim.Native.Nat.{_-_, _≤_, _<_, zero-le}
 use lib.ListN.{length, getD-replicate}
 use Rattle.rules.specs.Sheet.{sheetLength, monthUnder}
-use Rattle.rules.specs.Cut.{supportVolume, bilateralVolume}
+use Rattle.rules.specs.Cut.{supportVolume, bilateralVolume, rowCount}
 use Rattle.laws.proofs.Arrays.{agrees-as, agrees-filled, agrees-listed}
 use Rattle.sheet.proofs.Whole.{row-there}
 use Rattle.volumes.specs.Volumes.{noVolumes}
-use Rattle.volumes.proofs.Turns.{volumes-whole, volumes-short, Counted, counted-fits, counted-none, counted-own, counted-other}
+use Rattle.volumes.proofs.Turns.{volumes-whole, volumes-short, Counted, counted-fits, counted-few, counted-none, counted-own, counted-other}
 use Rattle.volumes.proofs.row_volumes.Statement.{statement}
 use Rattle.volumes.proofs.row_volumes.Tie as tie
 
@@ -44,7 +44,9 @@ array-copy-out-v : tie.Need-array-copy-out-v Inv-loop μ-loop
 array-copy-out-v c = omega arith
 
 with-row-requires : tie.Need-with-row-requires Inv-loop μ-loop
-with-row-requires c κs = counted-fits (c .before .before .before .before .before .before .before .loop .inv .0) (omega arith) _ (omega arith)
+with-row-requires c κs =
+    let k = c .before .before .before .before .before .before .before .loop .inv .0 in
+    (counted-fits k (omega arith) _ (omega arith), counted-few k (omega arith) _ (omega arith))
 
 mul-of : tie.Need-mul-of Inv-loop μ-loop
 mul-of c = search needs
@@ -71,7 +73,7 @@ loop-again c =
     )
 
 returns-2 : tie.Need-returns-2 Inv-loop μ-loop
-unfolding supportVolume bilateralVolume
+unfolding supportVolume bilateralVolume rowCount
 returns-2 c =
     let l = c .before .before .loop in
     let a = c .before .before .before .before .before .before in

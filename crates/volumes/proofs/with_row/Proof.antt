@@ -13,6 +13,9 @@ use Rattle.volumes.proofs.with_row.Tie as tie
 stated-requires : tie.Need-stated-requires
 stated-requires c κs = search needs
 
+add-rows : tie.Need-add-rows
+add-rows c = search needs
+
 plus-requires : tie.Need-plus-requires
 plus-requires c κs = search needs
 
@@ -26,7 +29,7 @@ returns c =
       eq-eqb _ 255 (c .before .if1 .taken),
       add-zero,
       ap tenths (c .plus .ensures ∙ added-exact _ _ (omega arith)),
-      c .before .before .before .before .before .stated .ensures .0,
+      c .before .before .before .before .before .before .stated .ensures .0,
     )
 
 returns-2 : tie.Need-returns-2
@@ -36,9 +39,9 @@ returns-2 c =
       ne-eqb _ 255 (c .before .if1 .left),
       add-zero,
       ap tenths (c .plus2 .ensures ∙ added-exact _ _ (omega arith)),
-      c .before .before .before .before .before .stated .ensures .0,
+      c .before .before .before .before .before .before .stated .ensures .0,
     )
 
 pub with-row-spec : {M : Type 1} → statement M
 with-row-spec =
-    tie.close (tie.spec stated-requires plus-requires plus-requires-2 returns returns-2)
+    tie.close (tie.spec stated-requires add-rows plus-requires plus-requires-2 returns returns-2)
