@@ -30,16 +30,16 @@ returns c =
     let high = ap (λ (y : HourFigures). y .high) f ∙ high-found _ _ _ _ _ ∙ ap highPowers lent in (
       high,
       λ low.
-      let none = ap highPowers lent ∙ sym high ∙ low in
-      let sums = sums-known _ _ _ (a .pre .0 .1) lent (a .args .summed .0) of (ap (λ (y : HourFigures). y .sums) f ∙ sums-found _ _ _ _ _ none) in
-      record {
-        k4 = ap₂ metOver (sums .0) (sums .1);
-        average =
-            average-is _ _ _ (a .pre .0 .1) lent (a .pre .0 .0) (a .pre .1 .0) (a .pre .1 .1) (a .args .control .on) (a .pre .1 .2) of
-            (ap (λ (y : HourFigures). y .average .0) f ∙ ap (λ (y : Hundredths). y .0) (average-found _ _ _ _ _ none));
-        few = c .hour-figures .ensures .1 .2;
-        fits = rw (sums .0) (met-fits _ _ _ _ (a .pre .0 .1) (a .pre .0 .0) (sym high ∙ low));
-      },
+          let none = ap highPowers lent ∙ sym high ∙ low in
+          let sums = sums-known _ _ _ (a .pre .0 .1) lent (a .args .summed .0) of (ap (λ (y : HourFigures). y .sums) f ∙ sums-found _ _ _ _ _ none) in
+          record {
+            k4 = ap₂ metOver (sums .0) (sums .1);
+            average =
+                average-is _ _ _ (a .pre .0 .1) lent (a .pre .0 .0) (a .pre .1 .0) (a .pre .1 .1) (a .args .control .on) (a .pre .1 .2) of
+                (ap (λ (y : HourFigures). y .average .0) f ∙ ap (λ (y : Hundredths). y .0) (average-found _ _ _ _ _ none));
+            few = c .hour-figures .ensures .1 .2;
+            fits = rw (sums .0) (met-fits _ _ _ _ (a .pre .0 .1) (a .pre .0 .0) (sym high ∙ low));
+          },
     )
 
 pub hours-of-spec : {M : Type 1} → statement M
