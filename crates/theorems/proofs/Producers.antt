@@ -1,7 +1,7 @@
 -- A worse producer has no higher coefficient, with the same T and S; no smaller penalty; and with no larger S, no more met. Assumes nothing.
 use mathlib.Core.Path.{_≡_, refl, sym, ap}
 use mathlib.Core.List.{List, [], _∷_}
-use Prim.Native.Nat.{ℕ, zero, suc, zero-le, _≤_, _<_, min}
+use Prim.Native.Nat.{ℕ, zero, suc, zero-le, _≤_, _<_}
 use native.Mathlib.Nat.{le-refl, not-suc-le-zero, mul-le-mul, mul-le-mul-left, mul-le-mul-right}
 use native.Mathlib.Omega.{arith}
 use Rattle.rules.specs.Range.{sum}
@@ -14,47 +14,6 @@ use Rattle.laws.proofs.Range.{sum-mono, sum-same, when-mono}
 use Rattle.laws.proofs.Units.{rounded-mono}
 use Rattle.theorems.specs.Demand3.{WorseProducer}
 use Rattle.theorems.proofs.Bands.{band-mono, thousandths-mono}
-
--- A producer with less attested capacity, and all else the same, is worse.
-abbrev withAttested : Producer → ℕ → Producer
-withAttested p attested =
-    record {
-      attested = attested;
-      deductible = p .deductible;
-      ownNeeds = p .ownNeeds;
-      noUpwardBid = p .noUpwardBid;
-      noDownwardBid = p .noDownwardBid;
-      noPlan = p .noPlan;
-      k3 = p .k3;
-      k6 = p .k6;
-      k7 = p .k7;
-      k8 = p .k8;
-      k9 = p .k9;
-      k10 = p .k10;
-      working = p .working;
-      possible = p .possible;
-      outsideUse = p .outsideUse;
-    }
-
-pub less-attested : {n : ℕ} (p : Producer) (attested : ℕ) → attested ≤ p .attested → WorseProducer n p (withAttested p attested)
-less-attested p attested l =
-    record {
-      attested = l;
-      deductible = refl;
-      ownNeeds = refl;
-      noUpwardBid = le-refl _;
-      noDownwardBid = le-refl _;
-      noPlan = le-refl _;
-      k3 = le-refl _;
-      k6 = le-refl _;
-      k7 = le-refl _;
-      k8 = le-refl _;
-      k9 = le-refl _;
-      k10 = le-refl _;
-      working = λ i b. le-refl _;
-      possible = λ i b. refl;
-      outsideUse = λ i b. le-refl _;
-    }
 
 -- A larger part of the same whole has no smaller share; a larger penalty leaves no more; more met of what is asked is no smaller part.
 share-mono : (whole : ℕ) {part part′ : ℕ} → part ≤ part′ → share part whole ≤ share part′ whole
@@ -104,7 +63,7 @@ module _ (h : Header) (p p′ : Producer) (w : WorseProducer (hours h) p p′) w
   -- What is asked of both is the same, and what is met no more, where S is no larger.
   pub asked-same : (S : ℕ) → sum (asked p′ S) (hours h) ≡ sum (asked p S) (hours h)
   unfolding asked
-  asked-same S = sum-same _ _ refl (λ i l. ap (min S) (w .possible i l))
+  asked-same S = sum-same _ _ refl (λ i l. omega (arith, w .possible i l))
 
   pub met-down : {S S′ : ℕ} → S′ ≤ S → sum (met p′ S′) (hours h) ≤ sum (met p S) (hours h)
   unfolding met asked
@@ -145,3 +104,44 @@ in-order-down {h} {p = p} {p′ = p′} {T = T} {S = S} eh eT eS w = rw (eh, eT,
 
 pub others-down : {h h′ : Header} {p p′ : Producer} → h′ ≡ h → WorseProducer (hours h) p p′ → NoMore (others h′ p′) (others h p)
 others-down {h} {p = p} {p′ = p′} eh w = rw eh (no-other-up h p p′ w)
+
+-- A producer with less attested capacity, and all else the same, is worse.
+abbrev withAttested : Producer → ℕ → Producer
+withAttested p attested =
+    record {
+      attested = attested;
+      deductible = p .deductible;
+      ownNeeds = p .ownNeeds;
+      noUpwardBid = p .noUpwardBid;
+      noDownwardBid = p .noDownwardBid;
+      noPlan = p .noPlan;
+      k3 = p .k3;
+      k6 = p .k6;
+      k7 = p .k7;
+      k8 = p .k8;
+      k9 = p .k9;
+      k10 = p .k10;
+      working = p .working;
+      possible = p .possible;
+      outsideUse = p .outsideUse;
+    }
+
+pub less-attested : {n : ℕ} (p : Producer) (attested : ℕ) → attested ≤ p .attested → WorseProducer n p (withAttested p attested)
+less-attested p attested l =
+    record {
+      attested = l;
+      deductible = refl;
+      ownNeeds = refl;
+      noUpwardBid = le-refl _;
+      noDownwardBid = le-refl _;
+      noPlan = le-refl _;
+      k3 = le-refl _;
+      k6 = le-refl _;
+      k7 = le-refl _;
+      k8 = le-refl _;
+      k9 = le-refl _;
+      k10 = le-refl _;
+      working = λ i b. le-refl _;
+      possible = λ i b. refl;
+      outsideUse = λ i b. le-refl _;
+    }
