@@ -45,7 +45,7 @@ sum-le f b (suc n) h =
     let rest : sum f n ≤ n * b = sum-le f b n (λ i l. h i (omega arith)) in
     rw suc-mul (omega (arith, h n (omega arith)))
 
--- Nowhere above when taken so many times, so neither is the sum.
+-- Nowhere above, the one taken a times and the other b times, so are the sums.
 pub sum-times : (a b : ℕ) (f g : ℕ → ℕ) (n : ℕ) → ((i : ℕ) → i < n → a * f i ≤ b * g i) → a * sum f n ≤ b * sum g n
 unfolding sum
 sum-times a b f g zero h = omega arith

@@ -106,7 +106,7 @@ module _ (s s′ out out′ : List ℕ) (a : Accepted s (length out)) (a′ : Ac
   no-better-equal-attested same = no-better (λ p l more. same p l)
 
 -- Why a producer with more than one row must keep its attested capacity, so that nobody tries to prove more: of one with two support rows of
--- 50.0, attested capacity 100.0 gives the second row 40.0, and 50.0 gives it 50.0; so no statement over all worse months holds.
+-- 50.0, attested capacity 100.0 gives the second row 40.0, and 50.0 gives it 50.0. So it is not true of all worse months that no row rises.
 pub two-row-figures : TwoRowFigures
 two-row-figures = TwoRows.figures
 

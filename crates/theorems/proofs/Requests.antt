@@ -93,7 +93,7 @@ pub transfer-same-answer : (s s′ list : List ℕ) (room room′ : ℕ) → Acc
     → transferOutcome s′ list ≡ transferOutcome s list
 transfer-same-answer s s′ list room room′ a a′ w = Transfers.same-answer s s′ list w room room′ a a′
 
--- and demand 3 holds of the results of the two sheets afterwards.
+-- and demand 3 holds of the results of the two sheets afterwards, where a producer with more than one row keeps its attested capacity.
 pub transfer-no-better : (s s′ list out out′ : List ℕ) → Accepted s (length out) → Accepted s′ (length out′) → WorseSheet s s′
     → SameAttested (monthOf s) (monthOf s′) → NoBetter (headerOf s) (bufferAfter (transferred s list) out) (bufferAfter (transferred s′ list) out′)
 transfer-no-better = Transfers.no-better
