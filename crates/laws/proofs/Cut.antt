@@ -28,7 +28,7 @@ use Rattle.rules.specs.Cut.{
   cutInOrder,
   ownRows,
 }
-use Rattle.laws.proofs.Range.{sum-more, sum-mono, sum-same, sum-only, one-found, when-mono, when-both, when-split}
+use Rattle.laws.proofs.Range.{sum-more, sum-mono, sum-same, one-passed, sum-only, one-found, when-mono, when-both, when-split}
 
 -- The turn of a loop over the rows: a row of its own gives as much as it has and counts in T, another's does neither.
 module _ (m : Month) (p j : ℕ) where
@@ -119,7 +119,7 @@ module _ (m : Month) (p : ℕ) where
   own-split v (suc n) = omega (arith, own-split v n, when-split (owns m p n) (support m n) (v n))
 
   -- A row of its own, by what the rows before it left of the excess.
-  own-after : (j : ℕ) → m .row j .producer ≡ p → afterCut m j ≡ m .row j .volume - (excess m p - sum (ownVolume m (sold m) p) j)
+  pub own-after : (j : ℕ) → m .row j .producer ≡ p → afterCut m j ≡ m .row j .volume - (excess m p - sum (ownVolume m (sold m) p) j)
   unfolding afterCut leftToCut
   own-after j e = rw e
 
@@ -160,6 +160,11 @@ module _ (m : Month) (p : ℕ) where
       kept : (j : ℕ) (b : Bool) → eqb (m .row j .producer) p ≡ b → when (b && support m j) (afterCut m j) ≡ when (b && support m j) (m .row j .volume)
       kept j true q = ap (when (support m j)) (own-after j (eqb-true _ _ q) ∙ omega (arith, none))
       kept j false q = unfold when in refl
+
+-- A producer that has a row has at least one.
+pub own-counted : (m : Month) (p j : ℕ) → j < m .header .rows → m .row j .producer ≡ p → 1 ≤ rowCount m p
+unfolding rowCount owns
+own-counted m p j l own = one-passed (owns m p) j (m .header .rows) l (eq-eqb _ _ own)
 
 -- A producer's single row: its volume is T + B, and of T and B the one that its kind has.
 module _ (m : Month) (p : ℕ) (alone : single m p ≡ true) (j : ℕ) (l : j < m .header .rows) (own : m .row j .producer ≡ p) where

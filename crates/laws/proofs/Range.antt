@@ -45,6 +45,12 @@ sum-le f b (suc n) h =
     let rest : sum f n ≤ n * b = sum-le f b n (λ i l. h i (omega arith)) in
     rw suc-mul (omega (arith, h n (omega arith)))
 
+-- Nowhere above, the one taken a times and the other b times, so are the sums.
+pub sum-times : (a b : ℕ) (f g : ℕ → ℕ) (n : ℕ) → ((i : ℕ) → i < n → a * f i ≤ b * g i) → a * sum f n ≤ b * sum g n
+unfolding sum
+sum-times a b f g zero h = omega arith
+sum-times a b f g (suc n) h = omega (arith, sum-times a b f g n (λ i l. h i (omega arith)), h n (omega arith))
+
 -- A loop's start, its turn and its end.
 pub sum-none : (f : ℕ → ℕ) → sum f 0 ≡ 0
 unfolding sum
@@ -91,7 +97,7 @@ module _ (test : ℕ → Bool) where
   passed n = sum (λ i. when (test i) 1) n
 
   -- A place that passes is one; the last is the one, or an earlier is and the last does not pass.
-  one-passed : (i n : ℕ) → i < n → test i ≡ true → 1 ≤ passed n
+  pub one-passed : (i n : ℕ) → i < n → test i ≡ true → 1 ≤ passed n
   unfolding sum when
   one-passed i zero l t = absurd (omega arith)
   one-passed i (suc n) l t = ⊎-elim this (λ b. earlier (one-passed i n b t)) (eq-or-lt-of-le (le-of-suc-le-suc l))

@@ -1,7 +1,7 @@
 -- Alike months have one result: by demand 3's relation, read in both directions. Assumes nothing.
 use mathlib.Core.Path.{_≡_, refl, sym, ap, ap₂, _∙_}
 use mathlib.Core.List.{List, _++_}
-use Prim.Native.Nat.{ℕ, zero, suc, _+_, _*_, _≤_, _<_}
+use Prim.Native.Nat.{ℕ, zero, suc, _+_, _*_, _<_}
 use native.Mathlib.Nat.{add-assoc, le-of-eq, le-antisymm}
 use native.Mathlib.Omega.{arith}
 use Rattle.rules.specs.declared.Header.{Header}
@@ -19,7 +19,7 @@ use Rattle.rules.specs.Fields.{laid, joined}
 use Rattle.rules.specs.Sheet.{statedWidth, producerWidth, producerAt, hoursAt, hourSeries, power, producerUnder}
 use Rattle.rules.specs.Result.{RowFigures, ConsumerFigures, TotalFigures, rowFigures, consumerFigures, totalFigures, rowFields, consumerFields, totalFields, headFields, rowRecord, consumerRecord, resultOf}
 use Rattle.laws.proofs.Sheet.{Spans, series-span, span-ends, SameFields, stated-same}
-use Rattle.theorems.specs.Demand3.{WorseProducer, Worse}
+use Rattle.theorems.specs.Demand3.{WorseProducer, Worse, SameAttested}
 use Rattle.theorems.specs.Alike.{SameProducer, Alike}
 use Rattle.theorems.proofs.Rows as Rows
 use Rattle.theorems.proofs.Months as Months
@@ -149,6 +149,9 @@ alike-worse m m′ a =
           (record { contract = refl; peak = le-of-eq refl; supplier = le-of-eq refl; grid = le-of-eq refl; z = le-of-eq refl; price = refl });
     }
 
+alike-attested : (m m′ : Month) → Alike m m′ → SameAttested m m′
+alike-attested m m′ a p l more = a .producer p l .attested
+
 alike-back : (m m′ : Month) → Alike m m′ → Alike m′ m
 alike-back m m′ a =
     record {
@@ -178,6 +181,12 @@ module _ (m m′ : Month) (a : Alike m m′) (w : MonthLimits m) where
   up : Worse m′ m
   up = alike-worse m′ m (alike-back m m′ a)
 
+  kept : SameAttested m m′
+  kept = alike-attested m m′ a
+
+  kept′ : SameAttested m′ m
+  kept′ = alike-attested m′ m (alike-back m m′ a)
+
   there : {n n′ : ℕ} → n′ ≡ n → {j : ℕ} → j < n → j < n′
   there e l = rw e l
 
@@ -189,17 +198,17 @@ module _ (m m′ : Month) (a : Alike m m′) (w : MonthLimits m) where
 
   same-cut : (j : ℕ) → j < m .header .rows → afterCut m′ j ≡ afterCut m j
   same-cut j l =
-      le-antisymm (Rows.cut-down m m′ (a .header) j l (down .producer _ (w .row j l .producer)) (Months.own-rows m m′ (a .header) w down _))
-      (Rows.cut-down m′ m (sym (a .header)) j (there rows′ l) (up .producer _ (w′ .row j (there rows′ l) .producer)) (Months.own-rows m′ m (sym (a .header)) w′ up _))
+      le-antisymm (Rows.cut-down m m′ (a .header) j l (down .producer _ (w .row j l .producer)) (Months.own-rows down _))
+      (Rows.cut-down m′ m (sym (a .header)) j (there rows′ l) (up .producer _ (w′ .row j (there rows′ l) .producer)) (Months.own-rows up _))
 
   same-row : (j : ℕ) → j < m .header .rows → rowFigures m′ j ≡ rowFigures m j
   same-row j l =
-      let ea : actual m′ j ≡ actual m j = le-antisymm (Months.actual-down m m′ (a .header) w down j l) (Months.actual-down m′ m (sym (a .header)) w′ up j (there rows′ l)) in
-      let ep : payment m′ j ≡ payment m j = le-antisymm (Months.payment-down m m′ (a .header) w down j l) (Months.payment-down m′ m (sym (a .header)) w′ up j (there rows′ l)) in
+      let ea : actual m′ j ≡ actual m j = le-antisymm (Months.actual-down m m′ (a .header) w down kept j l) (Months.actual-down m′ m (sym (a .header)) w′ up kept′ j (there rows′ l)) in
+      let ep : payment m′ j ≡ payment m j = le-antisymm (Months.payment-down m m′ (a .header) w down kept j l) (Months.payment-down m′ m (sym (a .header)) w′ up kept′ j (there rows′ l)) in
       rw (same-cut j l, ea, ep)
 
   same-credit : (c : ℕ) → credit m′ c ≡ credit m c
-  same-credit c = le-antisymm (Months.credit-down m m′ (a .header) w down c) (Months.credit-down m′ m (sym (a .header)) w′ up c)
+  same-credit c = le-antisymm (Months.credit-down m m′ (a .header) w down kept c) (Months.credit-down m′ m (sym (a .header)) w′ up kept′ c)
 
   same-consumer : (c : ℕ) → c < m .header .consumers → consumerFigures m′ c ≡ consumerFigures m c
   unfolding charge volume band percent countedPeak
@@ -207,8 +216,8 @@ module _ (m m′ : Month) (a : Alike m m′) (w : MonthLimits m) where
 
   same-totals : totalFigures m′ ≡ totalFigures m
   same-totals =
-      let paid : totalPaid m′ ≡ totalPaid m = le-antisymm (Months.paid-down m m′ (a .header) w down) (Months.paid-down m′ m (sym (a .header)) w′ up) in
-      let charged : totalCharged m′ ≡ totalCharged m = le-antisymm (Months.charged-up m′ m (sym (a .header)) w′ up) (Months.charged-up m m′ (a .header) w down) in
+      let paid : totalPaid m′ ≡ totalPaid m = le-antisymm (Months.paid-down m m′ (a .header) w down kept) (Months.paid-down m′ m (sym (a .header)) w′ up kept′) in
+      let charged : totalCharged m′ ≡ totalCharged m = le-antisymm (Months.charged-up m′ m (sym (a .header)) w′ up kept′) (Months.charged-up m m′ (a .header) w down kept) in
       rw (paid, charged)
 
   row-bytes : (j : ℕ) → j < m .header .rows → rowRecord m′ j ≡ rowRecord m j

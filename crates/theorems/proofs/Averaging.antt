@@ -4,7 +4,7 @@ use mathlib.Core.Path.{_≡_, refl, sym, ap, _∙_}
 use mathlib.Core.Bool.{Bool, true, false, cond}
 use mathlib.Core.Logic.{_⊎_, inl, inr}
 use mathlib.Core.List.{List}
-use Prim.Native.Nat.{ℕ, zero, suc, zero-le, _+_, _-_, _*_, _^_, _≤_, _<_}
+use Prim.Native.Nat.{ℕ, _+_, _-_, _*_, _^_, _≤_, _<_}
 use native.Mathlib.Nat.{le-refl, add-zero}
 use native.Mathlib.Omega.{arith}
 use borrow.Author.Tests.{eqb-true, eqb-false, eq-eqb, ne-eqb}
@@ -12,14 +12,14 @@ use lib.Dec.{eqb}
 use lib.ListN.{length, getD}
 use Rattle.rules.specs.declared.Header.{Header}
 use Rattle.rules.specs.declared.Consumer.{Consumer}
-use Rattle.rules.specs.Range.{sum, when}
-use Rattle.rules.specs.Month.{Producer, Month, hours, withConsumers}
+use Rattle.rules.specs.Range.{when}
+use Rattle.rules.specs.Month.{Month, hours, withConsumers}
 use Rattle.rules.specs.Units.{tenth, tenthsCeiling}
 use Rattle.rules.specs.Limits.{ConsumerLimits, FormLimits, MonthLimits}
 use Rattle.rules.specs.ControlHours.{controlHour, counted, controlSum, controlCount, controlAverage}
-use Rattle.rules.specs.Cut.{owns, support, bilateral, ownVolume, ownSupport, ownBilateral, supportVolume, bilateralVolume, summedCapacity, excess, leftToCut, afterCut}
-use Rattle.rules.specs.Coefficients.{coefficients}
-use Rattle.rules.specs.Rows.{actual, payment}
+use Rattle.rules.specs.Cut.{owns, support, bilateral, ownVolume, ownSupport, ownBilateral, supportVolume, bilateralVolume, summedCapacity, excess, leftToCut, afterCut, rowCount, single}
+use Rattle.rules.specs.Coefficients.{cutSupport, cutCapacity, coefficients}
+use Rattle.rules.specs.Rows.{begun, factors, actual, payment}
 use Rattle.rules.specs.Consumers.{credited, credit, countedPeak, percent, band, volume, charge}
 use Rattle.rules.specs.Totals.{totalPaid}
 use Rattle.rules.specs.Fields.{bigEndian, bytesOf, over}
@@ -28,6 +28,7 @@ use Rattle.rules.specs.Result.{TotalFigures, rowFigures, consumerFigures, resul
 use Rattle.rules.specs.Outcome.{Accepted, bufferAfter}
 use Rattle.rules.specs.ComplexRecord.{complex, drawn, sent}
 use Rattle.rules.specs.Averaging.{net, complexPeak, averageRefusal, peakWritten, averaged, atPeak, withPeakOf}
+use Rattle.laws.proofs.Range.{sum-times}
 use Rattle.laws.proofs.Coefficients.{average-at-most}
 use Rattle.laws.proofs.Fields.{length-bytesOf, same-bytes, Holds, read-held}
 use Rattle.laws.proofs.Sheet.{consumer-inside}
@@ -35,9 +36,9 @@ use Rattle.laws.proofs.Written.{length-overAt, overAt-holds, overAt-keeps}
 use Rattle.laws.proofs.Refusals.{limits}
 use Rattle.laws.proofs.Answers as Answers
 use Rattle.laws.proofs.Averaging.{WholeRecord, LowRecord, averaged-limits}
-use Rattle.theorems.specs.Demand3.{WorseProducer, WorseConsumer, Worse, NoBetter}
+use Rattle.theorems.specs.Demand3.{WorseConsumer, Worse, NoBetter}
 use Rattle.theorems.specs.Request3.{OutsidePeak, OnlyPeak, HigherDrawn, OnlyLine, NoLower}
-use Rattle.theorems.proofs.Producers.{control-average-mono}
+use Rattle.theorems.proofs.Producers.{less-attested, control-average-mono}
 use Rattle.theorems.proofs.ReadBack.{row-read, consumer-read, totals-read}
 use Rattle.theorems.proofs.Demand3.{over-begins, begins, months-no-better}
 use Rattle.theorems.proofs.OtherConsumers as Other
@@ -45,34 +46,29 @@ use Rattle.theorems.proofs.OtherConsumers as Other
 -- No row knows a consumer's figures, and no consumer those of another.
 module _ (m : Month) (k : ℕ → Consumer) where
   rows-kept : (j : ℕ) → rowFigures (withConsumers m k) j ≡ rowFigures m j
-  unfolding afterCut leftToCut excess summedCapacity supportVolume bilateralVolume ownSupport ownBilateral ownVolume owns support bilateral coefficients actual payment
+  unfolding afterCut leftToCut excess summedCapacity supportVolume bilateralVolume ownSupport ownBilateral ownVolume owns support bilateral rowCount single cutSupport cutCapacity coefficients begun factors actual payment
   rows-kept j = refl
 
   consumers-kept : (c : ℕ) → k c ≡ m .consumer c → consumerFigures (withConsumers m k) c ≡ consumerFigures m c
-  unfolding charge volume band percent countedPeak credit credited afterCut leftToCut excess summedCapacity supportVolume bilateralVolume ownSupport ownBilateral ownVolume owns support bilateral coefficients actual payment
+  unfolding charge volume band percent countedPeak credit credited afterCut leftToCut excess summedCapacity supportVolume bilateralVolume ownSupport ownBilateral ownVolume owns support bilateral rowCount single cutSupport cutCapacity coefficients begun factors actual payment
   consumers-kept c e = rw e
 
   paid-kept : totalPaid (withConsumers m k) ≡ totalPaid m
-  unfolding totalPaid afterCut leftToCut excess summedCapacity supportVolume bilateralVolume ownSupport ownBilateral ownVolume owns support bilateral coefficients actual payment
+  unfolding totalPaid afterCut leftToCut excess summedCapacity supportVolume bilateralVolume ownSupport ownBilateral ownVolume owns support bilateral rowCount single cutSupport cutCapacity coefficients begun factors actual payment
   paid-kept = refl
 
 -- The control average of figures up to a ceiling is not above it, whatever it is rounded to.
-sum-times : (f g : ℕ → ℕ) (k n : ℕ) → ((i : ℕ) → i < n → f i ≤ k * g i) → sum f n ≤ k * sum g n
-unfolding sum
-sum-times f g k zero h = zero-le
-sum-times f g k (suc n) h = omega (arith, sum-times f g k n (λ i l. h i (omega arith)), h n (omega arith))
-
 control-average-at-most : (fineness : ℕ) (h : Header) (f : ℕ → ℕ) (most : ℕ) → ((i : ℕ) → i < hours h → f i ≤ most)
     → controlAverage fineness h f ≤ fineness * most
 unfolding controlAverage
 control-average-at-most fineness h f most low = average-at-most fineness most (controlCount h) sums
   where
-    times : (b : Bool) (v : ℕ) → v ≤ most → when b v ≤ most * when b 1
+    times : (b : Bool) (v : ℕ) → v ≤ most → 1 * when b v ≤ most * when b 1
     times true v l = unfold when in omega (arith, l)
     times false v l = unfold when in omega arith
 
     sums : controlSum h f ≤ most * controlCount h
-    sums = unfold controlSum controlCount counted in sum-times _ _ most (hours h) (λ i l. times (controlHour h i) (f i) (low i l))
+    sums = unfold controlSum controlCount counted in omega (arith, sum-times 1 most _ _ (hours h) (λ i l. times (controlHour h i) (f i) (low i l)))
 
 -- Consumer c's peak, written into a sheet that numbers 1 to 6 let pass and that has this consumer.
 module _ (s : List ℕ) (form : FormLimits s) (c peak : ℕ) (b : c < headerOf s .consumers) where
@@ -288,28 +284,8 @@ module _ (s : List ℕ) where
         omega (arith, up, higher .imported)
 
     worse : Worse (month s r) (withPeakOf (monthOf s) (complex r) (complexPeak (headerOf s) r′))
-    worse = record { producer = λ p l. self (monthOf s .producer p); row = λ j l. refl; consumer = λ d l. go d (eqb d (complex r)) }
+    worse = record { producer = λ p l. less-attested (monthOf s .producer p) _ (le-refl _); row = λ j l. refl; consumer = λ d l. go d (eqb d (complex r)) }
       where
-        self : {n : ℕ} (p : Producer) → WorseProducer n p p
-        self p =
-            record {
-              attested = le-refl _;
-              deductible = refl;
-              ownNeeds = refl;
-              noUpwardBid = le-refl _;
-              noDownwardBid = le-refl _;
-              noPlan = le-refl _;
-              k3 = le-refl _;
-              k6 = le-refl _;
-              k7 = le-refl _;
-              k8 = le-refl _;
-              k9 = le-refl _;
-              k10 = le-refl _;
-              working = λ i l. le-refl _;
-              possible = λ i l. refl;
-              outsideUse = λ i l. le-refl _;
-            }
-
         at : (k : Consumer) (p q : ℕ) → p ≤ q → WorseConsumer (atPeak k p) (atPeak k q)
         at k p q l = record { contract = refl; peak = l; supplier = le-refl _; grid = le-refl _; z = le-refl _; price = refl }
 
@@ -326,19 +302,19 @@ module _ (s : List ℕ) where
       abbrev second : List ℕ
       second = bufferAfter (averaged s r′) out′
 
-      begun : Holds first 0 (resultOf (month s r))
-      begun = over-begins _ out (settled s r none out a)
+      held : Holds first 0 (resultOf (month s r))
+      held = over-begins _ out (settled s r none out a)
 
-      begun′ : Holds second 0 (resultOf (withPeakOf (monthOf s) (complex r) (complexPeak (headerOf s) r′)))
-      begun′ = rw (sym (higher .complex)) (over-begins _ out′ (settled s r′ none′ out′ a′))
+      held′ : Holds second 0 (resultOf (withPeakOf (monthOf s) (complex r) (complexPeak (headerOf s) r′)))
+      held′ = rw (sym (higher .complex)) (over-begins _ out′ (settled s r′ none′ out′ a′))
 
       kept′ : MonthLimits (withPeakOf (monthOf s) (complex r) (complexPeak (headerOf s) r′))
       kept′ = rw (sym (higher .complex)) (with-kept s r′ none′)
 
       better : NoBetter (headerOf s) first second
       better =
-          months-no-better (month s r) (withPeakOf (monthOf s) (complex r) (complexPeak (headerOf s) r′)) refl (with-kept s r none) kept′ worse
-          first second begun begun′
+          months-no-better (month s r) (withPeakOf (monthOf s) (complex r) (complexPeak (headerOf s) r′)) refl (with-kept s r none) kept′ worse (λ p l more. refl)
+          first second held held′
 
       pub no-lower : NoLower (headerOf s) (complex r) first second × OnlyLine (headerOf s) (complex r) first second
       no-lower =
@@ -346,5 +322,5 @@ module _ (s : List ℕ) where
             record { volume = better .consumer-volume _ l; charge = better .consumer-charge _ l; total-charged = better .total-charged },
             only-line (monthOf s) (complex r) (month s r .consumer) (withPeakOf (monthOf s) (complex r) (complexPeak (headerOf s) r′) .consumer)
                 (λ d n. other-peak (monthOf s) (complex r) _ d n ∙ sym (other-peak (monthOf s) (complex r) _ d n))
-                (with-kept s r none) kept′ first second begun begun′,
+                (with-kept s r none) kept′ first second held held′,
           )

@@ -19,7 +19,7 @@ use Rattle.laws.proofs.Refusals.{limits}
 use Rattle.laws.proofs.Answers.{is-changed}
 use Rattle.laws.proofs.Cut.{cut-le-volume}
 use Rattle.laws.proofs.Rows.{actual-le-cut}
-use Rattle.theorems.specs.Demand3.{Worse, WorseSheet, NoBetter, OnlyCut}
+use Rattle.theorems.specs.Demand3.{Worse, SameAttested, WorseSheet, NoBetter, OnlyCut}
 use Rattle.theorems.proofs.ReadBack.{row-read, consumer-read, totals-read}
 use Rattle.theorems.proofs.Months as Months
 
@@ -54,7 +54,7 @@ only-cut s out a =
     }
 
 -- Two months with one header, the second worse, and two buffers that begin with their results.
-module _ (m m′ : Month) (e : m′ .header ≡ m .header) (w : MonthLimits m) (w′ : MonthLimits m′) (worse : Worse m m′)
+module _ (m m′ : Month) (e : m′ .header ≡ m .header) (w : MonthLimits m) (w′ : MonthLimits m′) (worse : Worse m m′) (keeps : SameAttested m m′)
     (out out′ : List ℕ) (b : Holds out 0 (resultOf m)) (b′ : Holds out′ 0 (resultOf m′)) where
   row′ : (j : ℕ) → j < m .header .rows → readRow out′ j ≡ rowFigures m′ j
   row′ j l = row-read m′ w′ out′ b′ j (rw (ap (λ (h : Header). h .rows) e) l)
@@ -70,18 +70,18 @@ module _ (m m′ : Month) (e : m′ .header ≡ m .header) (w : MonthLimits m) (
   pub months-no-better : NoBetter (m .header) out out′
   months-no-better =
       record {
-        row-actual = λ j l. rw (row′ j l, row-read m w out b j l) (Months.actual-down m m′ e w worse j l);
-        row-payment = λ j l. rw (row′ j l, row-read m w out b j l) (Months.payment-down m m′ e w worse j l);
-        consumer-volume = λ c l. rw (consumer′ c l, consumer-read m w out b c l) (Months.volume-up m m′ e w worse c l);
-        consumer-charge = λ c l. rw (consumer′ c l, consumer-read m w out b c l) (Months.charge-up m m′ e w worse c l);
-        total-paid = rw (totals′, totals-read m w out b) (Months.paid-down m m′ e w worse);
-        total-charged = rw (totals′, totals-read m w out b) (Months.charged-up m m′ e w worse);
+        row-actual = λ j l. rw (row′ j l, row-read m w out b j l) (Months.actual-down m m′ e w worse keeps j l);
+        row-payment = λ j l. rw (row′ j l, row-read m w out b j l) (Months.payment-down m m′ e w worse keeps j l);
+        consumer-volume = λ c l. rw (consumer′ c l, consumer-read m w out b c l) (Months.volume-up m m′ e w worse keeps c l);
+        consumer-charge = λ c l. rw (consumer′ c l, consumer-read m w out b c l) (Months.charge-up m m′ e w worse keeps c l);
+        total-paid = rw (totals′, totals-read m w out b) (Months.paid-down m m′ e w worse keeps);
+        total-charged = rw (totals′, totals-read m w out b) (Months.charged-up m m′ e w worse keeps);
       }
 
 -- Demand 3.
 pub no-better : (s s′ out out′ : List ℕ) → Accepted s (length out) → Accepted s′ (length out′) → WorseSheet s s′
-    → NoBetter (headerOf s) (bufferAfter s out) (bufferAfter s′ out′)
-no-better s s′ out out′ a a′ w =
+    → SameAttested (monthOf s) (monthOf s′) → NoBetter (headerOf s) (bufferAfter s out) (bufferAfter s′ out′)
+no-better s s′ out out′ a a′ w keeps =
     months-no-better (monthOf s) (monthOf s′) (same-header s s′ (w .header))
-    (limits s (length out) a .month) (limits s′ (length out′) a′ .month) (w .figures)
+    (limits s (length out) a .month) (limits s′ (length out′) a′ .month) (w .figures) keeps
     (bufferAfter s out) (bufferAfter s′ out′) (begins s out a) (begins s′ out′ a′)

@@ -2,6 +2,7 @@
 use mathlib.Core.Path.{_≡_}
 use mathlib.Core.List.{List, _++_}
 use Prim.Native.Nat.{ℕ, _+_, _≤_, _<_}
+use native.Mathlib.Omega.{arith}
 use lib.ListN.{length, drop}
 use Rattle.rules.specs.declared.Consumer.{Consumer}
 use Rattle.rules.specs.Limits.{SheetLimits}
@@ -17,11 +18,13 @@ use Rattle.laws.proofs.Refusals as Refusals
 use Rattle.laws.proofs.Answers as Answers
 use Rattle.laws.proofs.Cut as Cut
 use Rattle.theorems.specs.Demand1.{First}
-use Rattle.theorems.specs.Demand3.{WorseSheet, NoBetter, OnlyCut}
+use Rattle.theorems.specs.Demand3.{SameAttested, OneRowEach, EqualAttested, WorseSheet, NoBetter, OnlyCut}
+use Rattle.theorems.specs.TwoRows.{TwoRowFigures, NeverRises}
 use Rattle.theorems.proofs.ReadBack as ReadBack
 use Rattle.theorems.proofs.Demand1 as Demand1
 use Rattle.theorems.proofs.Demand3 as Demand3
 use Rattle.theorems.proofs.Consumers as Consumers
+use Rattle.theorems.proofs.TwoRows as TwoRows
 
 -- Demand 1 --------------------------------------------------------------------------------------------------------------------------
 
@@ -89,10 +92,26 @@ stretch-inside s p e l = (Refusals.stretch-there s p e l, Refusals.stretch-ends 
 
 -- Demand 3 --------------------------------------------------------------------------------------------------------------------------
 
--- Of two accepted sheets with the same header, of which the second is alike or worse, the second result is no better.
-pub no-better : (s s′ out out′ : List ℕ) → Accepted s (length out) → Accepted s′ (length out′) → WorseSheet s s′
-    → NoBetter (headerOf s) (bufferAfter s out) (bufferAfter s′ out′)
-no-better = Demand3.no-better
+-- Of two accepted sheets with the same header in the relation of demand 3, where a producer with more than one row keeps its attested
+-- capacity and any other may have less, the second result is no better.
+module _ (s s′ out out′ : List ℕ) (a : Accepted s (length out)) (a′ : Accepted s′ (length out′)) (w : WorseSheet s s′) where
+  pub no-better : SameAttested (monthOf s) (monthOf s′) → NoBetter (headerOf s) (bufferAfter s out) (bufferAfter s′ out′)
+  no-better = Demand3.no-better s s′ out out′ a a′ w
+
+  -- So it is where each producer has at most one row, and where all keep their attested capacity. [Requests, 8]
+  pub no-better-one-row : OneRowEach (monthOf s) → NoBetter (headerOf s) (bufferAfter s out) (bufferAfter s′ out′)
+  no-better-one-row one = no-better (λ p l more. absurd (omega (arith, one p l, more)))
+
+  pub no-better-equal-attested : EqualAttested (monthOf s) (monthOf s′) → NoBetter (headerOf s) (bufferAfter s out) (bufferAfter s′ out′)
+  no-better-equal-attested same = no-better (λ p l more. same p l)
+
+-- Why a producer with more than one row must keep its attested capacity, so that nobody tries to prove more: of one with two support rows of
+-- 50.0, attested capacity 100.0 gives the second row 40.0, and 50.0 gives it 50.0. So it is not true of all worse months that no row rises.
+pub two-row-figures : TwoRowFigures
+two-row-figures = TwoRows.figures
+
+pub two-rows-rise : NeverRises → ⊥
+two-rows-rise = TwoRows.rises
 
 -- In every accepted sheet's result each row's actual volume ≤ its volume after the cut ≤ the sheet's volume.
 pub only-cut : (s out : List ℕ) → Accepted s (length out) → OnlyCut s (bufferAfter s out)

@@ -1,11 +1,13 @@
 pub mod Bands
 pub mod Producers
 pub mod Consumers
+pub mod SingleRow
 pub mod Rows
 pub mod Months
 pub mod ReadBack
 pub mod Demand1
 pub mod Demand3
+pub mod TwoRows
 pub mod Demands
 pub mod Alike
 pub mod OtherConsumers

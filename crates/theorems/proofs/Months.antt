@@ -1,4 +1,4 @@
--- Demand 3 over months. Assumes nothing.
+-- Demand 3 over months, where a producer with more than one row keeps its attested capacity. Assumes nothing.
 use mathlib.Core.Path.{_≡_, sym, ap}
 use Prim.Native.Nat.{ℕ, _≤_, _<_}
 use Rattle.rules.specs.declared.Header.{Header}
@@ -10,19 +10,19 @@ use Rattle.rules.specs.Rows.{actual, payment}
 use Rattle.rules.specs.Consumers.{credited, credit, volume, charge}
 use Rattle.rules.specs.Totals.{totalPaid, totalCharged}
 use Rattle.laws.proofs.Range.{sum-mono, when-mono}
-use Rattle.theorems.specs.Demand3.{Worse}
+use Rattle.theorems.specs.Demand3.{Worse, SameAttested}
 use Rattle.theorems.proofs.Rows as Rows
 use Rattle.theorems.proofs.Consumers as Consumers
 
-module _ (m m′ : Month) (e : m′ .header ≡ m .header) (limits : MonthLimits m) (w : Worse m m′) where
-  pub own-rows : (p : ℕ) → Rows.SameRowsOf m m′ p
-  own-rows p = record { owner = λ j l. ap (λ (r : Row). r .producer) (w .row j l); own = λ j l q. w .row j l }
+pub own-rows : {m m′ : Month} → Worse m m′ → (p : ℕ) → Rows.SameRowsOf m m′ p
+own-rows w p = record { owner = λ j l. ap (λ (r : Row). r .producer) (w .row j l); own = λ j l q. w .row j l }
 
+module _ (m m′ : Month) (e : m′ .header ≡ m .header) (limits : MonthLimits m) (w : Worse m m′) (keeps : SameAttested m m′) where
   pub actual-down : (j : ℕ) → j < m .header .rows → actual m′ j ≤ actual m j
-  actual-down j l = Rows.actual-down m m′ e j l (w .producer _ (limits .row j l .producer)) (own-rows _)
+  actual-down j l = let b = limits .row j l .producer in Rows.actual-down m m′ e j l (w .producer _ b) (own-rows w _) (keeps _ b)
 
   pub payment-down : (j : ℕ) → j < m .header .rows → payment m′ j ≤ payment m j
-  payment-down j l = Rows.payment-down m m′ e j l (w .producer _ (limits .row j l .producer)) (own-rows _)
+  payment-down j l = let b = limits .row j l .producer in Rows.payment-down m m′ e j l (w .producer _ b) (own-rows w _) (keeps _ b)
 
   pub credit-down : (c : ℕ) → credit m′ c ≤ credit m c
   unfolding credit credited bilateral support

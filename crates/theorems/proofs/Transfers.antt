@@ -13,6 +13,7 @@ use Rattle.rules.specs.declared.Consumer.{Consumer}
 use Rattle.rules.specs.declared.Layout.{Layout}
 use Rattle.rules.specs.Units.{tenthsCeiling}
 use Rattle.rules.specs.Limits.{FormLimits, ConsumerLimits, MonthLimits}
+use Rattle.rules.specs.Cut.{owns, rowCount}
 use Rattle.rules.specs.Fields.{bigEndian, over}
 use Rattle.rules.specs.Sheet.{headerOf, layoutOf, monthOf, consumerAt, consumerOf, contractAt, withContracts}
 use Rattle.rules.specs.Result.{resultOf}
@@ -27,7 +28,7 @@ use Rattle.laws.proofs.Refusals.{first-append, first-next, sheet-numbered, shee
 use Rattle.laws.proofs.Written.{Outside, Room, length-contracts, contracts-keep, contract-read}
 use Rattle.laws.proofs.Answers as Answers
 use Rattle.laws.proofs.Transfers.{AllNamed, list-numbered, names-clear, applied-limits, after-same, turns-same, sum-after, after-within}
-use Rattle.theorems.specs.Demand3.{Worse, WorseSheet, NoBetter}
+use Rattle.theorems.specs.Demand3.{Worse, SameAttested, WorseSheet, NoBetter}
 use Rattle.theorems.specs.Request1.{contractSum, OnlyContracts}
 use Rattle.theorems.proofs.Demand3.{same-header, over-begins, months-no-better}
 use Rattle.theorems.proofs.Demand3 as Demand3
@@ -239,8 +240,8 @@ module _ (s s′ t : List ℕ) (w : WorseSheet s s′) where
       }
 
 pub no-better : (s s′ t out out′ : List ℕ) → Accepted s (length out) → Accepted s′ (length out′) → WorseSheet s s′
-    → NoBetter (headerOf s) (bufferAfter (transferred s t) out) (bufferAfter (transferred s′ t) out′)
-no-better s s′ t out out′ a a′ w = go (eqb (transferRefusal s t) 0) refl
+    → SameAttested (monthOf s) (monthOf s′) → NoBetter (headerOf s) (bufferAfter (transferred s t) out) (bufferAfter (transferred s′ t) out′)
+no-better s s′ t out out′ a a′ w keeps = go (eqb (transferRefusal s t) 0) refl
   where
     same : transferRefusal s′ t ≡ transferRefusal s t
     same = same-refusal s s′ t w (length out) (length out′) a a′
@@ -250,10 +251,10 @@ no-better s s′ t out out′ a a′ w = go (eqb (transferRefusal s t) 0) refl
         let none = eqb-true _ _ e in
         let none′ = same ∙ none in
         months-no-better (withVolumes (monthOf s) (volumesAfter (monthOf s) t)) (withVolumes (monthOf s′) (volumesAfter (monthOf s′) t)) (same-header s s′ (w .header))
-        (with-kept s t none) (with-kept s′ t none′) (worse-after s s′ t w none)
+        (with-kept s t none) (with-kept s′ t none′) (worse-after s s′ t w none) (unfold rowCount owns in keeps)
         (bufferAfter (transferred s t) out) (bufferAfter (transferred s′ t) out′)
         (over-begins _ out (settled s t none out a)) (over-begins _ out′ (settled s′ t none′ out′ a′))
     go false e =
         let n = eqb-false _ _ e in
         rw (refused-keeps s t n, refused-keeps s′ t (λ z. n (sym same ∙ z)))
-        (Demand3.no-better s s′ out out′ a a′ w)
+        (Demand3.no-better s s′ out out′ a a′ w keeps)

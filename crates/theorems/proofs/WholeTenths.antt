@@ -11,7 +11,7 @@ use Rattle.rules.specs.Bands.{bandOf, thousandths}
 use Rattle.rules.specs.Coefficients.{ratio, millionthsOf, overuse, penalty, lessPenalty, exactK1, k1}
 use Rattle.laws.proofs.Units.{Nearest, nearest, rounded-times}
 use Rattle.laws.proofs.Bands.{thousandths-times}
-use Rattle.laws.proofs.Coefficients.{ratio-some, penalty-of-none}
+use Rattle.laws.proofs.Coefficients.{ratio-is, penalty-of-none}
 use Rattle.theorems.specs.Request6.{tenthsOver, tenthsPenalty, lessTenthsPenalty, k1ByTenths, WholeTenths}
 
 -- What is rounded to a whole number of tenths at a hundredth is rounded to that number at a tenth.
@@ -31,10 +31,10 @@ penalty-tenfold (suc T) x =
     unfold lessPenalty lessTenthsPenalty inThousandths in
     (let part : (suc T * 100 - x * 10) * one ≡ (10 * suc T - x) * one * 10 = omega arith in
     let whole : suc T * 100 ≡ 10 * suc T * 10 = omega arith in
-    ratio-some (ratio (suc T * 100 - x * 10) (suc T * 100)) (omega arith)
+    ratio-is (ratio (suc T * 100 - x * 10) (suc T * 100))
     ∙ ap₂ rounded part whole
     ∙ rounded-times 10 ((10 * suc T - x) * one) (10 * suc T) (omega arith) (omega arith)
-    ∙ sym (ratio-some (ratio (10 * suc T - x) (10 * suc T)) (omega arith)))
+    ∙ sym (ratio-is (ratio (10 * suc T - x) (10 * suc T))))
 
 module _ (h : Header) (p : Producer) (tenths : ℕ) (w : WholeTenths h p tenths) where
   over-tenfold : overuse h p ≡ tenthsOver h p * 10

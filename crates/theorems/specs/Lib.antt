@@ -1,5 +1,6 @@
 pub mod Demand1
 pub mod Demand3
+pub mod TwoRows
 pub mod Alike
 pub mod Request1
 pub mod Request3
