@@ -40,8 +40,8 @@ MARKS_OF_COLUMNS = {
     "9 by column": ["9column1", "9column2", "9column3", "9lasthour3"],
 }
 
-# Those of request 8: of the rows of a producer, and what the cut takes of them; of the one fraction of a single row, and
-# n × D there; slips that would have shown. k1first cannot occur: see rival/README.md.
+# Those of request 8: of the rows of a producer, and what the cut takes of them; of the one fraction of a single row,
+# and n × D there; slips that would have shown. k1first cannot occur: see rival/README.md.
 MARKS_OF_AFTER_CUT = {
     "rows of a producer": ["onerow", "manyrows", "norow", "onesupport", "onebilateral", "zerorow", "zerorowsingle"],
     "cut of a single row": ["onecut0", "onecutpart", "onecutall"],

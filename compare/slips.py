@@ -13,8 +13,8 @@ IN_TENTHS = "toTenths (forDays covered (running product ks))"
 T_AFTER, S_AFTER = "supportVolume m (afterCut m) p", "summedCapacity m (afterCut m) p"
 SUM_MET, SUM_ASKED = "(sum (met p S) (hours h))", "(sum (asked p S) (hours h))"
 
-# Texts of Rows and Cut: k1 and k4 in the one fraction of a single row, the coefficients that follow it, and the count of
-# a producer's rows. And k1 and k4 rounded to a millionth before.
+# Texts of Rows and Cut: k1 and k4 in the one fraction of a single row, the coefficients that follow it, and the count
+# of a producer's rows. And k1 and k4 rounded to a millionth before.
 OF_PRODUCER = "(m .header) (m .producer p)"
 K1_EXACT, K4_EXACT = f"(exactK1 {OF_PRODUCER} (cutSupport m p))", f"(exactK4 {OF_PRODUCER} (cutCapacity m p))"
 FOLLOWING = f"(others {OF_PRODUCER})"
@@ -88,8 +88,8 @@ SLIPS = [
     ("rows cut in proportion",
      ("Cut",
       "m .row j .volume - leftToCut m (m .row j .producer) j",
-      "m .row j .volume - rounded (m .row j .volume * excess m (m .row j .producer)) (supportVolume m (sold m) (m .row j "
-      ".producer) + bilateralVolume m (sold m) (m .row j .producer))")),
+      "m .row j .volume - rounded (m .row j .volume * excess m (m .row j .producer)) (supportVolume m (sold m) (m .row "
+      "j .producer) + bilateralVolume m (sold m) (m .row j .producer))")),
     ("the cut taken from the actual volume",
      ("Rows",
       ACTUAL,
@@ -97,8 +97,8 @@ SLIPS = [
     ("support rows cut first",
      ("Cut",
       "excess m p - sum (ownVolume m (sold m) p) j",
-      "excess m p - cond (support m j) (sum (ownSupport m (sold m) p) j) (supportVolume m (sold m) p + sum (ownBilateral "
-      "m (sold m) p) j)")),
+      "excess m p - cond (support m j) (sum (ownSupport m (sold m) p) j) (supportVolume m (sold m) p + sum "
+      "(ownBilateral m (sold m) p) j)")),
     ("every row cut by the first producer's excess", ("Cut", "leftToCut m (m .row j .producer) j", "leftToCut m 0 j")),
 
     # coefficients
@@ -131,8 +131,8 @@ SLIPS = [
      ("Rows",
       "(begun m (m .row j .producer) (afterCut m j))",
       "(cond (single m (m .row j .producer) && bilateral m j) (asOneFraction (afterCut m j) (ratio 1 1) (exactK4 (m "
-      ".header) (m .producer (m .row j .producer)) (cutCapacity m (m .row j .producer)))) (begun m (m .row j .producer) "
-      "(afterCut m j)))")),
+      ".header) (m .producer (m .row j .producer)) (cutCapacity m (m .row j .producer)))) (begun m (m .row j "
+      ".producer) (afterCut m j)))")),
     ("the two bid ratios multiplied",
      ("Coefficients",
       "share (hours h - max (p .noUpwardBid) (p .noDownwardBid)) (hours h)",

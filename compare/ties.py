@@ -11,7 +11,7 @@ from records import HUNDREDTH, ONE, SINGLE_BUYER, TOP_CAPACITY, TOP_PRICE, TOP_Z
 
 # No half can occur in k2 and k5: a half millionth asks that 24 × days has a power of 2 one higher than a million has,
 # which is the sixth; 24 × days has at most the fifth (28 days). So these two get the nearest rounding only.
-# k1 and k4 are rounded only where a producer has more rows than one. The halves of the one fraction are in after_cut.py.
+# k1 and k4 are rounded only where a producer has more rows than one; after_cut.py has the halves of the one fraction.
 
 
 def telling_volume(rng, k):
