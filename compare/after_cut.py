@@ -100,7 +100,6 @@ def put_powers(rng, month, producer, low, high):
 
 # ------------------------------------------------------------------ rows cut
 
-
 # What is cut of a volume.
 CUT_OF = {"nothing": lambda rng, volume: 0, "part": part_of, "all": lambda rng, volume: volume}
 
@@ -306,21 +305,27 @@ def beside_another(rng, buyer, volume):
     return shuffled(rng, [(buyer, volume), (0, rng.randrange(1, 1000))]), 0
 
 
-def next_to_half(kind, worked_of, rows_of=by_itself):
-    """A row of this kind next to half a tenth, with the producer's other rows. With others than it, only where the one
-    fraction shows."""
-    draw_row, buyer, in_tenth = ROWS[kind]
+def draw_near(rng, month, kind, worked_of, shows):
+    """A row of this kind with its worked sum; shows: only one by which it shows that k1 and k4 are rounded first."""
+    draw_row, _, in_tenth = ROWS[kind]
+    step = step_of_m(month, in_tenth) if worked_of is NEAR["on_a_half"] else 1
+    while True:
+        row = draw_row(rng, month, step)
+        worked = worked_of(rng, row)
+        if worked is not None and not (shows and row.as_one(worked) == row.rounded_first(worked)):
+            return row, worked
 
+
+def next_to_half(kind, worked_of, rows_of=by_itself):
+    """A row of this kind next to half a tenth, by itself or with others of its producer."""
     def draw(rng, month):
-        step, worked = step_of_m(month, in_tenth) if worked_of is NEAR["on_a_half"] else 1, None
-        while worked is None or rows_of is not by_itself and row.as_one(worked) == row.rounded_first(worked):
-            row = draw_row(rng, month, step)
-            worked = worked_of(rng, row)
+        row, worked = draw_near(rng, month, kind, worked_of, rows_of is not by_itself)
         producer = full_producer(month)
         put_use(rng, month, producer, row.use)
         of_s = row.m == row.volume + row.use.deductible
         producer.possible = spread(rng, month, row.m, TOP_CAPACITY) if of_s else flat(month, row.m)
         producer.working = with_sum_of(month, worked)
+        _, buyer, _ = ROWS[kind]
         sales, cut = rows_of(rng, buyer, row.volume)
         return cut_by(rng, Seller(producer, sales), cut)
     return draw
