@@ -508,7 +508,8 @@ SLIPS = [
      ("Rows", "(asOneFraction volume", "(asOneFraction (supportVolume m (sold m) p + bilateralVolume m (sold m) p)")),
     ("the one fraction for producers with more rows too", ("Cut", IS_SINGLE, "ltb 0 (rowCount m p)")),
     ("a row of volume 0 not counted as a row", ("Cut", COUNTED, "when (owns m p j && ltb 0 (sold m j)) 1")),
-    ("a row cut whole not counted as a row", ("Cut", COUNTED, "when (owns m p j && ltb 0 (afterCut m j)) 1")),
+    ("a row cut whole not counted as a row",
+     ("Cut", COUNTED, "when (owns m p j && (eqb (sold m j) 0 || ltb 0 (afterCut m j))) 1")),
     ("only support rows counted as rows", ("Cut", COUNTED, "when (owns m p j && support m j) 1")),
     ("other producers' rows counted too", ("Cut", COUNTED, "1")),
 ]
