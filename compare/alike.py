@@ -40,7 +40,9 @@ ALIKE = [
      ["ControlTable.says: getD (lineOf first) day 0 → getD (lineOf first) day 1"]),
     ("the row past the last is read from the first consumer's contract volume, whose second byte is at most 1 "
      "(number 9), or past the end as 0: it is never a support row",
-     ["Cut.supportVolume: sum (ownSupport m p) (m .header .rows) → sum (ownSupport m p) (m .header .rows + 1)"]),
+     ["Cut.supportVolume: sum (ownSupport m v p) (m .header .rows) → sum (ownSupport m v p) (m .header .rows + 1)"]),
+    ("a producer without rows has none that would be worked as one fraction",
+     ["Cut.single: eqb (rowCount m p) 1 → leb (rowCount m p) 1"]),
     ("a difference ends at 0, so v - min v left is v - left, and left - min v left is left - v",
      ["Cut.cutInOrder: min v left → left",
       "Cut.cutInOrder: min v left → min left left",
@@ -50,14 +52,19 @@ ALIKE = [
      ["Rows.payment: money (actual m j) (m .row j .price) → money (m .row j .price) (actual m j)",
       "Consumers.charge: money (volume m c) (m .consumer c .price) → money (m .consumer c .price) (volume m c)",
       "Text2015.charge2015: money (volume2015 m c) (m .consumer c .price) → "
-      "money (m .consumer c .price) (volume2015 m c)"]),
+      "money (m .consumer c .price) (volume2015 m c)",
+      "Rows.begun: asOneFraction volume (exactK1 (m .header) (m .producer p) (cutSupport m p)) "
+      "(exactK4 (m .header) (m .producer p) (cutCapacity m p)) → "
+      "asOneFraction volume (exactK4 (m .header) (m .producer p) (cutCapacity m p)) "
+      "(exactK1 (m .header) (m .producer p) (cutSupport m p))"]),
     ("a support row names consumer 255, and no sheet has so many consumers (number 5)",
      ["Consumers.credited: bilateral m j && eqb (m .row j .consumer) c → eqb (m .row j .consumer) c"]),
     ("a byte past the end is read only of a sheet that number 1 or 6 refuses, whatever that byte is",
      ["Fields.bigEndian: getD s (at + w) 0 → getD s (at + w) 1"]),
-    ("1 over 0 is 1, by the rule for a whole of 0, as 1 over 1 is; and 0 of 2 is 0, as 0 of 1 is",
-     ["Coefficients.lessPenalty: ratio 1 1 → ratio 1 0",
-      "Coefficients.lessPenalty: ratio 0 1 → ratio 0 2"]),
+    ("0 of 2 is 0, as 0 of 1 is, and so is all that is divided by 0",
+     ["Coefficients.lessPenalty: ratio 0 1 → ratio 0 2",
+      "Coefficients.lessPenalty: ratio 0 1 → ratio 1 0",
+      "Coefficients.lessPenalty: ratio 0 1 → ratio 0 0"]),
     ("a number that is at most 0 is 0",
      ["Outcome.answered: eqb number 0 → leb number 0",
       "Outcome.lentAfter: eqb number 0 → leb number 0",

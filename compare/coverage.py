@@ -40,6 +40,19 @@ MARKS_OF_COLUMNS = {
     "9 by column": ["9column1", "9column2", "9column3", "9lasthour3"],
 }
 
+# Those of request 8: of the rows of a producer, and what the cut takes of them; of the one fraction of a single row,
+# and n × D there; slips that would have shown. k1first cannot occur: see rival/README.md.
+MARKS_OF_AFTER_CUT = {
+    "rows of a producer": ["onerow", "manyrows", "norow", "onesupport", "onebilateral", "zerorow", "zerorowsingle"],
+    "cut of a single row": ["onecut0", "onecutpart", "onecutall"],
+    "cut of more rows": ["manycut0", "manycutpart", "manycutall", "rowgone", "rowsupportgone"],
+    "k4 of a sum cut to 0": ["k4zerobycut"],
+    "the one fraction": ["tie_fraction", "fractiondown", "fractionup", "fractionexact"],
+    "n x D in a single row": ["penaltypart", "penaltyall", "penaltybycut", "onebilateralpenalty", "onebilateralfree"],
+    "T and S before the cut": ["tbefore", "sbefore", "tsbefore"],
+    "slips of the fraction": ["roundedfirst", "k4last", "fractionformany", "zerorowuncounted", "gonerowuncounted"],
+}
+
 
 def marks_of(line):
     """The marks of a case in the rival's line of them. One that stands beside several numbers is told with its own."""

@@ -42,16 +42,51 @@ def against_rule(first, second):
     return ""
 
 
+def records_of(sheet, kind):
+    """The places of a sheet's records of a kind."""
+    return [place for of_kind, _, place, _ in Header.from_bytes(sheet).records() if of_kind == kind]
+
+
+def attested_of(sheet):
+    """Each producer's attested capacity, the first four bytes of its record."""
+    return [sheet[place:place + 4] for place in records_of(sheet, "producer")]
+
+
+def has_more_rows(sheet):
+    """Some producer, the first byte of a row, has more rows than one."""
+    owners = [sheet[place] for place in records_of(sheet, "row")]
+    return len(set(owners)) < len(owners)
+
+
+def some_row_cut_further(sheet, first, second):
+    """In the second result of two sheets that have the same rows."""
+    (rows, _, _), (others, _, _) = (result_figures(sheet, result) for result in (first, second))
+    return any(other.after_cut < row.after_cut for row, other in zip(rows, others))
+
+
+def kinds_of_pair(first, second, results):
+    """What a pair is counted as, by what is attested in its sheets: with more rows than one of a producer that is the
+    same, as the drawing has it."""
+    if attested_of(first) != attested_of(second):
+        yield "attested"
+        if some_row_cut_further(first, *results):
+            yield "cut further"
+    if has_more_rows(first):
+        yield "more rows"
+
+
 def check_pairs(run, start, cases, answers, rule=DEMAND_3):
     """A rule of cases that follow each other by two, with results on which both programs agree.
 
-    Counts the pairs that had a figure that moved, and those of each version.
+    Counts the pairs that had a figure that moved, those of each version, and of demand 3 the kinds of pairs.
     """
     found = Counter()
     for place in range(0, len(cases), 2):
         first, second = (rule.figures(cases[number].sheet, answers[number]) for number in (place, place + 1))
         found["moved"] += first != second
         found[Header.from_bytes(cases[place].sheet).version] += 1
+        if rule is DEMAND_3:
+            found.update(kinds_of_pair(*(case.sheet for case in cases[place:place + 2]), answers[place:place + 2]))
         wrong = against_rule(first, second)
         if wrong:
             raise run.report_pair(start + place, *cases[place:place + 2], f"{rule.name}: {wrong}")
@@ -79,3 +114,13 @@ def moved_in(found, count, what, rule=DEMAND_3):
         return f"in less than half of the {what} a figure moved"
     rare = [version for version in LATER_VERSIONS if 6 * found[version] < count]
     return f"less than a sixth of the {what} are of version {rare[0]}" if rare else ""
+
+
+def attested_in(found, count, what, least):
+    """Says in how many pairs of demand 3 less is attested, and in how many of these more is cut; gives the words of a
+    failure if these are rare, less than one in so many pairs or half of the former, or none."""
+    print(f"in {found['attested']} of these pairs less is attested, in {found['cut further']} of them a row is cut "
+          f"further; in {found['more rows']} a producer has more rows than one, and the same is attested of it")
+    if least * found["attested"] < count:
+        return f"less is attested in less than one of {least} {what}"
+    return f"in few of the {what} a row is cut further" if 2 * found["cut further"] < found["attested"] else ""

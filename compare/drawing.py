@@ -41,6 +41,12 @@ def spread(rng, month, low, high):
     return array("I", [low + width * each // 65536 for each in drawn])
 
 
+def with_sum_of(month, total):
+    """Powers with this sum over all hours: alike, but for one more in the first of them."""
+    each, more = divmod(total, month.hours)
+    return array("I", [each + 1]) * more + array("I", [each]) * (month.hours - more)
+
+
 def capacity(figure):
     """The nearest figure that the sheet may carry."""
     return max(0, min(int(figure), TOP_CAPACITY))

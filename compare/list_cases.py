@@ -29,11 +29,22 @@ KINDS = ChangeKinds("list", GROUPS, REFUSED_SHEETS, SHARES, done=("applied", "lo
 
 # ------------------------------------------------------------------ pairs of demand 3 with a list
 
+
+def single_rows(rng):
+    """Each producer has one row."""
+    count = rng.randrange(1, 4)
+    sheet = sheet_of(rng, rng.randrange(2, 7), producers=count, rows=count)
+    for number, row in enumerate(sheet.rows):
+        row.producer = number
+    return sheet
+
+
 PAIR_SHEETS = {
     "only_consumers": some_sheet,
     **in_versions({"credits": credit_sheet("drawn")}),
     "with_producers": lambda rng: sheet_of(rng, rng.randrange(2, 7), producers=rng.randrange(1, 3),
                                            rows=rng.randrange(1, 9)),
+    "single_rows": single_rows,
 }
 BAND_STARTS = (1.0, 1.05, 1.1, 1.25, 1.45, 1.55)
 
@@ -48,7 +59,7 @@ def peaks_at_bands(rng, sheet, volumes):
 def pair(seed, index):
     """Every second pair has no producers, and every fifth a list that is turned down."""
     rng = Draws(f"{seed}/list-pair/{index}")
-    name = list(PAIR_SHEETS)[0 if index % 2 else 1 + index // 2 % 2]
+    name = list(PAIR_SHEETS)[0 if index % 2 else 1 + index // 2 % (len(PAIR_SHEETS) - 1)]
     sheet = PAIR_SHEETS[name](rng)
     turns = some_entries(rng, volumes_of(sheet))
     peaks_at_bands(rng, sheet, turns.volumes)

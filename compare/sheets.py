@@ -6,6 +6,7 @@
 A case is a kind (case_kinds.py), a sheet's bytes and the length of the result buffer.
 """
 import sys
+from collections import Counter
 from copy import deepcopy
 from functools import partial
 from typing import NamedTuple
@@ -18,6 +19,7 @@ import powers
 import programs
 import refused
 import ties
+from after_cut import AFTER_CUT
 from case_kinds import Kinds, in_bytes
 from hour_columns import COLUMNS, HIGH_COLUMNS
 from records import HEADER, MOST_CONSUMERS, MOST_ROWS, TOP_CAPACITY, TOP_Z
@@ -69,6 +71,7 @@ GROUPS = {
     "credits": in_versions(accepted.CREDITS),
     "largest": in_versions(accepted.LARGEST),
     "row_days": ROW_DAYS,
+    "after_cut": AFTER_CUT,
     "columns": COLUMNS,
     "high_columns": HIGH_COLUMNS,
     "damaged": refused.DAMAGED,
@@ -79,8 +82,8 @@ GROUPS = {
 # Cases of each group in a hundred.
 SHARES = {
     "checked_months": 1, "slips": 4, "several_rules": 8, "bands_of_k1": 10, "bands_of_consumers": 8, "ties": 10,
-    "zero_counts": 3, "months": 8, "ceilings": 4, "powers": 4, "cut": 5, "credits": 5, "largest": 2, "row_days": 6,
-    "columns": 3, "high_columns": 1, "damaged": 6, "buffers": 4, "ordinary": 6,
+    "zero_counts": 3, "months": 8, "ceilings": 4, "powers": 4, "cut": 5, "credits": 4, "largest": 2, "row_days": 6,
+    "after_cut": 4, "columns": 3, "high_columns": 1, "damaged": 5, "buffers": 3, "ordinary": 5,
     **{f"refusal_{number}": 1 for number in TRIED},
 }
 
@@ -145,8 +148,8 @@ KINDS = SheetKinds("", GROUPS, SHARES, SETTLEMENT_ROOM)
 
 # ------------------------------------------------------------------ pairs of demand 3
 
-PAIR_GROUPS = ("bands_of_k1", "bands_of_consumers", "ties", "cut", "credits", "row_days", "columns", "ordinary",
-               "months", "slips")
+PAIR_GROUPS = ("bands_of_k1", "bands_of_consumers", "ties", "cut", "credits", "row_days", "after_cut", "columns",
+               "ordinary", "months", "slips")
 
 
 def step(rng, figure):
@@ -194,12 +197,43 @@ def higher_powers(rng, powers, hours):
         powers[hour] = min(TOP_CAPACITY, powers[hour] + by)
 
 
+def free_to_attest(sheet):
+    """The numbers of the producers of which less may be attested in the second sheet: those with at most one row. With
+    more rows attested capacity is the same in both."""
+    rows = Counter(row.producer for row in sheet.rows)
+    return [number for number in range(len(sheet.producers)) if rows[number] <= 1]
+
+
+def owed(sheet, number):
+    """S of a producer, by the volumes of the sheet."""
+    return sheet.volume_of(number) + sheet.producers[number].deductible
+
+
+def attest_what_is_owed(sheet):
+    """Producers with at most one row, of which nothing is cut however little is attested, since their own needs are as
+    high as S or higher: without own needs so much is attested that nothing is cut either."""
+    for number in free_to_attest(sheet):
+        producer, whole = sheet.producers[number], owed(sheet, number)
+        if whole <= producer.own_needs:
+            producer.attested, producer.own_needs = min(whole, TOP_CAPACITY), max(0, whole - TOP_CAPACITY)
+    return sheet
+
+
+def cut_further(rng, sheet, number):
+    """Lowers attested capacity so far that more of the producer's row is cut, if there is anything left of it."""
+    producer = sheet.producers[number]
+    at_most = max(0, owed(sheet, number) - producer.own_needs)
+    producer.attested = max(0, min(producer.attested, at_most) - step(rng, sheet.volume_of(number)))
+
+
 def places_to_worsen(sheet):
     """Every place at which the second sheet of a pair may differ, as a change to make there."""
     month = sheet.month
     control_hours = month.control_hours()
+    for number in free_to_attest(sheet):
+        yield partial(lower, record=sheet.producers[number], name="attested")
+        yield partial(cut_further, sheet=sheet, number=number)
     for producer in sheet.producers:
-        yield partial(lower, record=producer, name="attested")
         yield partial(lower_powers, powers=producer.working)
         yield partial(higher_powers, powers=producer.outside, hours=range(month.hours))
         if control_hours:
@@ -216,7 +250,8 @@ def places_to_worsen(sheet):
 
 
 def worsened(rng, sheet):
-    """The second sheet of a pair: alike, or worse in one place, in some, in half of them or in all."""
+    """The second sheet of a pair: alike, or worse in one place, in some, in half of them or in all. In two of five
+    each row whose producer has no other is cut further."""
     second = deepcopy(sheet)
     places = list(places_to_worsen(second))
     form = rng.random()
@@ -230,20 +265,23 @@ def worsened(rng, sheet):
         count = rng.choice((len(places) // 2, len(places)))
     for change in rng.sample(places, min(count, len(places))):
         change(rng)
+    if rng.random() < 0.4:
+        for number in free_to_attest(second):
+            cut_further(rng, second, number)
     return second
 
 
-def draw_pair(rng, index, groups, taken, second_of):
-    """The first sheet is a corner of a group, the groups that are taken in turn; the second is made of it, with the
-    days of its rows."""
+def draw_pair(rng, index, groups, taken, second_of, first_of=lambda sheet: sheet):
+    """The first sheet is made of a corner of a group, the groups that are taken in turn; the second is made of the
+    first, with the days of its rows."""
     group = "largest" if index % 50 == 49 else taken[index % len(taken)]
     corner = rng.choice(list(groups[group]))
-    sheet = groups[group][corner](rng)
+    sheet = first_of(groups[group][corner](rng))
     return Pair(f"{group}/{corner}", sheet.to_bytes(), second_of(rng, sheet).to_bytes())
 
 
 def pair(seed, index):
-    return draw_pair(Draws(f"{seed}/pair/{index}"), index, GROUPS, PAIR_GROUPS, worsened)
+    return draw_pair(Draws(f"{seed}/pair/{index}"), index, GROUPS, PAIR_GROUPS, worsened, attest_what_is_owed)
 
 
 def pairs(seed, count, start=0):

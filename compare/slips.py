@@ -4,9 +4,25 @@ Each is told in plain words, with one edit or more: a module of crates/rules/spe
 the text that the slip puts in its place. That text may name any definition, imported there or not.
 """
 
-# Texts of Rows that several slips change: the actual volume of row j, and a volume through coefficients and days.
-ACTUAL = "through (afterCut m j) (coefficients m (m .row j .producer)) (daysCovered (m .header .days) (m .row j))"
-IN_TENTHS = "toTenths (forDays covered (running (inMillionths volume) ks))"
+# Texts of Rows that several slips change: the actual volume of row j, and a product through coefficients and days.
+THROUGH = "through (begun m (m .row j .producer) (afterCut m j)) (factors m (m .row j .producer))"
+ACTUAL = f"{THROUGH} (daysCovered (m .header .days) (m .row j))"
+IN_TENTHS = "toTenths (forDays covered (running product ks))"
+
+# Texts of Coefficients: T and S after the cut; the sums over hours of which k4 is made.
+T_AFTER, S_AFTER = "supportVolume m (afterCut m) p", "summedCapacity m (afterCut m) p"
+SUM_MET, SUM_ASKED = "(sum (met p S) (hours h))", "(sum (asked p S) (hours h))"
+
+# Texts of Rows and Cut: k1 and k4 in the one fraction of a single row, the coefficients that follow it, and the count
+# of a producer's rows. And k1 and k4 rounded to a millionth before.
+OF_PRODUCER = "(m .header) (m .producer p)"
+K1_EXACT, K4_EXACT = f"(exactK1 {OF_PRODUCER} (cutSupport m p))", f"(exactK4 {OF_PRODUCER} (cutCapacity m p))"
+FOLLOWING = f"(others {OF_PRODUCER})"
+COUNTED, IS_SINGLE = "when (owns m p j) 1", "eqb (rowCount m p) 1"
+K1_ROUNDED = "Rows", K1_EXACT, f"(ratio (k1 {OF_PRODUCER} (cutSupport m p)) one)"
+K4_ROUNDED = "Rows", K4_EXACT, f"(ratio (k4 {OF_PRODUCER} (cutCapacity m p)) one)"
+T_BEFORE = "Coefficients", T_AFTER, "supportVolume m (sold m) p"
+S_BEFORE = "Coefficients", S_AFTER, "summedCapacity m (sold m) p"
 
 # Texts of Coefficients and Averaging: the average of outside use, the p of k1, a complex's peak. And D of the average
 # as it is, not rounded, times the count of control hours; the p of that D.
@@ -21,11 +37,8 @@ TENTHS_IN_D = "Coefficients", "- inHundredths (p .deductible)", "- p .deductible
 TENTHS_IN_P = "Coefficients", P_OF_K1, "thousandths (overuse h p) (p .deductible)"
 IN_THOUSANDTHS = "inThousandths tenths = tenths *"
 
-# Row j's volume for the days that it covers, rounded to a tenth, and the sums of these for producer p: of its support
-# rows, and of all.
-FOR_DAYS = "(forDays (daysCovered (m .header .days) (m .row j)) (m .row j .volume))"
-T_FOR_DAYS = f"(sum (λ j. when (owns m p j && support m j) {FOR_DAYS}) (m .header .rows))"
-S_FOR_DAYS = f"(sum (λ j. when (owns m p j) {FOR_DAYS}) (m .header .rows) + m .producer p .deductible)"
+# The rows' volumes, as the sheet has them or after the cut, for the days that they cover, rounded to a tenth.
+FOR_DAYS = "(λ j. forDays (daysCovered (m .header .days) (m .row j)) ({} m j))".format
 
 # Texts of Sheet: where the three columns begin, and a column that `rearranged` writes; two that follow each other.
 FIRST, SECOND, THIRD = "series 0 4", "series (96 * h .days) 4", "series (192 * h .days) 4"
@@ -70,34 +83,28 @@ SLIPS = [
     # the cut
     ("rows cut in reverse",
      ("Cut",
-      "excess m p - sum (ownVolume m p) j",
-      "excess m p - (sum (ownVolume m p) (m .header .rows) - sum (ownVolume m p) (j + 1))")),
+      "excess m p - sum (ownVolume m (sold m) p) j",
+      "excess m p - (sum (ownVolume m (sold m) p) (m .header .rows) - sum (ownVolume m (sold m) p) (j + 1))")),
     ("rows cut in proportion",
      ("Cut",
       "m .row j .volume - leftToCut m (m .row j .producer) j",
-      "m .row j .volume - rounded (m .row j .volume * excess m (m .row j .producer)) (supportVolume m (m .row j "
-      ".producer) + bilateralVolume m (m .row j .producer))")),
+      "m .row j .volume - rounded (m .row j .volume * excess m (m .row j .producer)) (supportVolume m (sold m) (m .row "
+      "j .producer) + bilateralVolume m (sold m) (m .row j .producer))")),
     ("the cut taken from the actual volume",
      ("Rows",
       ACTUAL,
       ACTUAL.replace("afterCut m j", "m .row j .volume") + " - leftToCut m (m .row j .producer) j")),
     ("support rows cut first",
      ("Cut",
-      "excess m p - sum (ownVolume m p) j",
-      "excess m p - cond (support m j) (sum (ownSupport m p) j) (supportVolume m p + sum (ownBilateral m p) j)")),
+      "excess m p - sum (ownVolume m (sold m) p) j",
+      "excess m p - cond (support m j) (sum (ownSupport m (sold m) p) j) (supportVolume m (sold m) p + sum "
+      "(ownBilateral m (sold m) p) j)")),
     ("every row cut by the first producer's excess", ("Cut", "leftToCut m (m .row j .producer) j", "leftToCut m 0 j")),
-    ("the cut changes k1",
-     ("Coefficients",
-      "(m .producer p) (supportVolume m p)",
-      "(m .producer p) (sum (λ j. when (owns m p j && support m j) (afterCut m j)) (m .header .rows))")),
-    ("the cut changes k4", ("Coefficients", "(summedCapacity m p)", "(summedCapacity m p - excess m p)")),
 
     # coefficients
     ("k1 of support and bilateral rows",
-     ("Coefficients",
-      "(m .producer p) (supportVolume m p)",
-      "(m .producer p) (supportVolume m p + bilateralVolume m p)")),
-    ("k1 of S", ("Coefficients", "k1 h p T ∷", "k1 h p S ∷")),
+     ("Coefficients", T_AFTER, f"{T_AFTER} + bilateralVolume m (afterCut m) p")),
+    ("k1 of S", ("Coefficients", T_AFTER, S_AFTER)),
     ("k1 of the average as it is, not rounded",
      ("Coefficients",
       "lessPenalty T (penalty h p)",
@@ -113,12 +120,19 @@ SLIPS = [
      ("Coefficients",
       "lessPenalty T (penalty h p)",
       "lessPenalty T (bandOf (thousandths (overuse h p) (inHundredths T)) * overuse h p)")),
-    ("k1 left out of a row", ("Coefficients", "k1 h p T ∷ k2 h p", "k2 h p")),
+    ("k1 left out of rows", ("Coefficients", "k1 h p T ∷ k2 h p", "k2 h p")),
+    ("k1 left out of a single row", ("Rows", K1_EXACT, "(ratio 1 1)")),
     ("k1 counted twice", ("Coefficients", "k1 h p T ∷ k2 h p", "k1 h p T ∷ k1 h p T ∷ k2 h p")),
     ("k1 left out of bilateral rows",
      ("Rows",
-      "(coefficients m (m .row j .producer))",
-      "(drop (cond (support m j) 0 1) (coefficients m (m .row j .producer)))")),
+      "(factors m (m .row j .producer))",
+      "(drop (cond (support m j || single m (m .row j .producer)) 0 1) (factors m (m .row j .producer)))")),
+    ("k1 left out of a single bilateral row",
+     ("Rows",
+      "(begun m (m .row j .producer) (afterCut m j))",
+      "(cond (single m (m .row j .producer) && bilateral m j) (asOneFraction (afterCut m j) (ratio 1 1) (exactK4 (m "
+      ".header) (m .producer (m .row j .producer)) (cutCapacity m (m .row j .producer)))) (begun m (m .row j "
+      ".producer) (afterCut m j)))")),
     ("the two bid ratios multiplied",
      ("Coefficients",
       "share (hours h - max (p .noUpwardBid) (p .noDownwardBid)) (hours h)",
@@ -126,39 +140,35 @@ SLIPS = [
     ("the two bid counts added",
      ("Coefficients", "max (p .noUpwardBid) (p .noDownwardBid)", "(p .noUpwardBid + p .noDownwardBid)")),
     ("S of k4 without bilateral rows",
-     ("Coefficients", "(summedCapacity m p)", "(supportVolume m p + m .producer p .deductible)")),
+     ("Coefficients", S_AFTER, f"{T_AFTER} + m .producer p .deductible")),
     ("S of k4 without deductible",
-     ("Coefficients", "(summedCapacity m p)", "(supportVolume m p + bilateralVolume m p)")),
+     ("Coefficients", S_AFTER, f"{T_AFTER} + bilateralVolume m (afterCut m) p")),
     ("k4 of the month's sums",
-     ("Coefficients",
-      "ratio (sum (met p S) (hours h))",
-      "ratio (min (sum (asked p S) (hours h)) (sum (p .working) (hours h)))")),
+     ("Coefficients", SUM_MET, f"(min {SUM_ASKED} (sum (p .working) (hours h)))")),
     ("k4 as a mean of hours",
      ("Coefficients",
-      "ratio (sum (met p S) (hours h)) (sum (asked p S) (hours h))",
+      f"metOver {SUM_MET} {SUM_ASKED}",
       "ratio (rounded (sum (λ i. share (met p S i) (asked p S i)) (hours h)) (hours h)) one")),
     ("k4 of control hours",
      ("Coefficients",
-      "ratio (sum (met p S) (hours h)) (sum (asked p S) (hours h))",
-      "ratio (controlSum h (met p S)) (controlSum h (asked p S))")),
+      f"metOver {SUM_MET} {SUM_ASKED}",
+      "metOver (controlSum h (met p S)) (controlSum h (asked p S))")),
     ("k10 counted twice", ("Coefficients", "p .k10 ∷ []", "p .k10 ∷ p .k10 ∷ []")),
 
     # rows
     ("coefficients multiplied with each other first",
-     ("Rows",
-      "running (inMillionths volume) ks",
-      "rounded (inMillionths volume * running one ks) one")),
+     ("Rows", "(running product ks)", "(rounded (product * running one ks) one)")),
     ("rounded once, at the end",
      ("Rows", "running (rounded (product * k) one) ks", "running (product * k) ks"),
      ("Rows",
       IN_TENTHS,
-      "rounded (running (inMillionths volume) ks * covered .part) (covered .whole * 100000 * one ^ length ks)")),
+      "rounded (running product ks * covered .part) (covered .whole * 100000 * one ^ length ks)")),
     ("rounded to a tenth after each",
      ("Rows",
       "running (rounded (product * k) one) ks",
       "running (inMillionths (toTenths (rounded (product * k) one))) ks")),
     ("every row by the first producer's coefficients",
-     ("Rows", "(coefficients m (m .row j .producer))", "(coefficients m 0)")),
+     ("Rows", THROUGH, THROUGH.replace("(m .row j .producer)", "0"))),
     ("payment from the volume after the cut", ("Rows", "money (actual m j)", "money (afterCut m j)")),
     ("the total paid rounded once",
      ("Totals",
@@ -349,26 +359,27 @@ SLIPS = [
     ("days covered one too few", ("Rows", "suc (r .last) - r .first", "r .last - r .first")),
     ("the days before the first day", ("Rows", "suc (r .last) - r .first", "r .first - 1")),
     ("the share over 30 days in every month", ("Rows", "- r .first) days", "- r .first) 30")),
-    ("the share taken before k1", ("Rows", IN_TENTHS, "toTenths (running (forDays covered (inMillionths volume)) ks)")),
+    ("the share taken before k1, in a single row before k2",
+     ("Rows", IN_TENTHS, "toTenths (running (forDays covered product) ks)")),
     ("the share taken before k10",
      ("Rows",
       IN_TENTHS,
-      "toTenths (running (forDays covered (running (inMillionths volume) (take 9 ks))) (drop 9 ks))")),
-    ("the share taken after the tenth",
-     ("Rows", IN_TENTHS, "forDays covered (toTenths (running (inMillionths volume) ks))")),
+      "toTenths (running (forDays covered (running product (take (length ks - 1) ks))) (drop (length ks - 1) ks))")),
+    ("the share taken after the tenth", ("Rows", IN_TENTHS, "forDays covered (toTenths (running product ks))")),
     ("the share not rounded to a millionth",
-     ("Rows", IN_TENTHS, "rounded (running (inMillionths volume) ks * covered .part) (covered .whole * 100000)")),
+     ("Rows", IN_TENTHS, "rounded (running product ks * covered .part) (covered .whole * 100000)")),
     ("the share rounded to a millionth before it is taken",
      ("Rows", "rounded (product * covered .part) (covered .whole)",
       "rounded (product * rounded (one * covered .part) (covered .whole)) one")),
-    ("T of the covered days", ("Coefficients", "(m .producer p) (supportVolume m p)", f"(m .producer p) {T_FOR_DAYS}")),
-    ("S of the covered days", ("Coefficients", "(summedCapacity m p)", S_FOR_DAYS)),
-    ("the cut of the covered days", ("Cut", "= summedCapacity m p -", f"= {S_FOR_DAYS} -")),
+    ("T of the covered days", ("Coefficients", T_AFTER, f"supportVolume m {FOR_DAYS('afterCut')} p")),
+    ("S of the covered days", ("Coefficients", S_AFTER, f"summedCapacity m {FOR_DAYS('afterCut')} p")),
+    ("the cut of the covered days",
+     ("Cut", "excess m p = summedCapacity m (sold m) p", f"excess m p = summedCapacity m {FOR_DAYS('sold')} p")),
     ("the price divided by the days too",
      ("Rows", "money (actual m j) (m .row j .price)",
       "forDays (daysCovered (m .header .days) (m .row j)) (money (actual m j) (m .row j .price))")),
     ("the credit of the month",
-     ("Consumers", "c) (actual m j)", "c) (through (afterCut m j) (coefficients m (m .row j .producer)) (ratio 1 1))")),
+     ("Consumers", "c) (actual m j)", f"c) ({THROUGH} (ratio 1 1))")),
     ("version 2 read with rows of 10 bytes", ("Sheet", "cond (statesDays l) 12 10", "10")),
     ("the days in front of the price",
      ("Sheet", "price = bigEndian 4 s (at + 6);\n      first = dayAt l s (at + 10) 1",
@@ -464,4 +475,41 @@ SLIPS = [
       "bytesFrom s headerWidth (rowAt (layoutOf s) 0 - headerWidth)")),
     ("the first producer's columns for each",
      ("Sheet", "joined (inColumns (layoutOf s) s)", "joined (λ p. inColumns (layoutOf s) s 0)")),
+
+    # the summed capacity after the cut, and the one fraction of a single row
+    ("T from before the cut", T_BEFORE),
+    ("S from before the cut", S_BEFORE),
+    ("T and S from before the cut", T_BEFORE, S_BEFORE),
+    ("a single row as any other", ("Cut", IS_SINGLE, "eqb 0 1")),
+    ("k1 rounded before the one fraction", K1_ROUNDED),
+    ("k4 rounded before the one fraction", K4_ROUNDED),
+    ("k1 and k4 rounded before the one fraction", K1_ROUNDED, K4_ROUNDED),
+    ("k4 left out of a single row", ("Rows", K4_EXACT, "(ratio 1 1)")),
+    ("k4 of a single row in its turn, after k3",
+     ("Rows", K4_EXACT, "(ratio 1 1)"), ("Rows", FOLLOWING, "(drop 1 (coefficients m p))")),
+    ("k4 of a single row counted twice", ("Rows", FOLLOWING, "(drop 1 (coefficients m p))")),
+    ("the one fraction rounded only after k2 and k3",
+     ("Rows",
+      K4_EXACT,
+      f"(ratio ({K4_EXACT} .part * (k2 {OF_PRODUCER} * m .producer p .k3)) ({K4_EXACT} .whole * (one * one)))"),
+     ("Rows", FOLLOWING, f"(fromK5 {OF_PRODUCER})")),
+    ("the one fraction rounded only after k2",
+     ("Rows", K4_EXACT, f"(ratio ({K4_EXACT} .part * k2 {OF_PRODUCER}) ({K4_EXACT} .whole * one))"),
+     ("Rows", FOLLOWING, f"(drop 1 (others {OF_PRODUCER}))")),
+    ("the one fraction rounded down",
+     ("Rows",
+      "rounded (inMillionths volume * (a .part * b .part)) (a .whole * b .whole)",
+      "inMillionths volume * (a .part * b .part) / (a .whole * b .whole)")),
+    ("half a millionth of the one fraction rounded down",
+     ("Rows",
+      "rounded (inMillionths volume * (a .part * b .part)) (a .whole * b .whole)",
+      "(inMillionths volume * (a .part * b .part) + (a .whole * b .whole - 1) / 2) / (a .whole * b .whole)")),
+    ("the one fraction of the volume before the cut",
+     ("Rows", "(asOneFraction volume", "(asOneFraction (supportVolume m (sold m) p + bilateralVolume m (sold m) p)")),
+    ("the one fraction for producers with more rows too", ("Cut", IS_SINGLE, "ltb 0 (rowCount m p)")),
+    ("a row of volume 0 not counted as a row", ("Cut", COUNTED, "when (owns m p j && ltb 0 (sold m j)) 1")),
+    ("a row cut whole not counted as a row",
+     ("Cut", COUNTED, "when (owns m p j && (eqb (sold m j) 0 || ltb 0 (afterCut m j))) 1")),
+    ("only support rows counted as rows", ("Cut", COUNTED, "when (owns m p j && support m j) 1")),
+    ("other producers' rows counted too", ("Cut", COUNTED, "1")),
 ]

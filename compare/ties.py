@@ -2,25 +2,25 @@
 
 They are made so that a wrong rounding shows in the result and is not lost in a later one.
 """
-from array import array
 from math import gcd
 
 from bands import P_OF_FACTOR, deductibles_for, half_sheet, k1_sheet, little_support, some_support
 from drawing import (draw_month, draw_price, flat, full_producer, in_parts, one_row_sheet, plain_consumer, spread,
-                     with_average)
+                     with_average, with_sum_of)
 from records import HUNDREDTH, ONE, SINGLE_BUYER, TOP_CAPACITY, TOP_PRICE, TOP_Z, Row, Sheet
 
 # No half can occur in k2 and k5: a half millionth asks that 24 × days has a power of 2 one higher than a million has,
 # which is the sixth; 24 × days has at most the fifth (28 days). So these two get the nearest rounding only.
+# k1 and k4 are rounded only where a producer has more rows than one; after_cut.py has the halves of the one fraction.
 
 
-def telling_volume(rng, k, step=1):
+def telling_volume(rng, k):
     """A volume that k brings to a half tenth or just above, so that one millionth less of k would show.
 
     A few coefficients, as 200,000, have no such volume; they get any.
     """
     for _ in range(300):
-        volume = rng.randrange(20_000 // step, TOP_CAPACITY // step + 1) * step
+        volume = rng.randrange(20_000, TOP_CAPACITY - 500)
         if 500_000 <= volume * k % ONE < 500_000 + volume:
             break
     return volume
@@ -32,6 +32,11 @@ def coprime_volume(rng):
         volume = rng.randrange(1, TOP_CAPACITY)
         if gcd(volume, 10) == 1:
             return volume
+
+
+def add_row(rng, sheet, volume):
+    """A support row more, first or last."""
+    sheet.rows.insert(rng.choice((0, len(sheet.rows))), Row(0, SINGLE_BUYER, volume, draw_price(rng)))
 
 
 def tie_average(rng):
@@ -72,22 +77,23 @@ def tie_k1(rng):
 
 
 def tie_k4(rng):
-    """The worked sum is an odd number of 128ths of the whole sum: k4 ends in a half millionth."""
+    """The worked sum is an odd number of 128ths of the whole sum: k4 ends in a half millionth. A second row, of any
+    volume or of 0, brings S to a multiple of what the sum of m is to hold."""
     month = draw_month(rng)
     producer = full_producer(month)
     odd = rng.randrange(1, 128, 2)
     k4 = (15_625 * odd + 1) // 2
     unit = 128 // gcd(month.hours, 128)
+    sheet = one_row_sheet(rng, month, producer, telling_volume(rng, k4))
+    add_row(rng, sheet, -sheet.volume_of(0) % unit + rng.choice((0, unit * rng.randrange(20))))
     if rng.random() < 0.5:  # m is the possible power
-        volume = telling_volume(rng, k4)
         m = unit * rng.randrange(1, 20_000 // unit)
         producer.possible = flat(month, m)
     else:  # m is S
-        volume = m = telling_volume(rng, k4, unit)
+        m = sheet.volume_of(0)
         producer.possible = spread(rng, month, m, TOP_CAPACITY)
-    each, more = divmod(month.hours * m // 128 * odd, month.hours)
-    producer.working = array("I", [each + 1]) * more + array("I", [each]) * (month.hours - more)
-    return one_row_sheet(rng, month, producer, volume)
+    producer.working = with_sum_of(month, month.hours * m // 128 * odd)
+    return sheet
 
 
 def share_of_hours(month, missing):
@@ -140,13 +146,11 @@ def tie_later_product(rng):
 GIVEN = (3, 6, 7, 8, 9, 10)  # the numbers of the coefficients that the sheet carries
 
 
-def set_half(rng, sheet, number):
-    """Makes the coefficient with this number of k1 to k10 one half."""
+def set_half(rng, sheet, number, support):
+    """Makes the coefficient with this number of k1 to k10 one half, where T is this."""
     month, producer = sheet.month, sheet.producers[0]
     if number == 1:  # 2 × D is half of T
-        times = rng.randrange(1, 4000)
-        producer.outside = with_average(rng, month, 5 * times)
-        sheet.rows.append(Row(0, SINGLE_BUYER, 2 * times, draw_price(rng)))
+        producer.outside = with_average(rng, month, 5 * support // 2)
     elif number == 2:
         producer.missing[rng.randrange(2)] = month.hours // 2
     elif number == 4:
@@ -185,18 +189,24 @@ def sheet_before_half(rng, month, drawn):
     return Sheet(month, [producer], [Row(0, 0, volume, draw_price(rng))], [plain_consumer(rng, 5000, 6000)])
 
 
-def order_of(drawn, half):
-    """Two coefficients whose order shows: one is drawn, the other a half."""
+def order_of(drawn, half, single=False):
+    """Two coefficients whose order shows: one is drawn, the other a half. In a single row, or beside another."""
     def draw(rng):
-        sheet = sheet_before_half(rng, draw_month(rng, control_days=2), drawn)
-        set_half(rng, sheet, half)
+        sheet, support = sheet_before_half(rng, draw_month(rng, control_days=2), drawn), 0
+        if not single:
+            support = 2 * rng.randrange(1, 4000)
+            add_row(rng, sheet, support)
+        set_half(rng, sheet, half, support)
         return sheet
     return draw
 
 
-# Each two neighbours of k1 to k10, so that any other order is found out.
+# Each two neighbours of k1 to k10, so that any other order is found out. And in a single row, where k4 is in what comes
+# first.
 ORDERS = {f"order_of_k{min(numbers)}_and_k{max(numbers)}": order_of(*numbers) for numbers in (
     (2, 1), (3, 2), (3, 4), (5, 4), (6, 5), (6, 7), (7, 8), (8, 9), (9, 10))}
+ORDERS.update((f"order_of_k{first}_and_k{second}_in_a_single_row", order_of(*numbers, single=True))
+              for first, second, numbers in ((4, 2, (2, 4)), (2, 3, (3, 2)), (3, 5, (3, 5))))
 
 
 def tie_volume(rng):

@@ -8,7 +8,7 @@ from collections import Counter
 import list_cases
 from change_cases import ChangeCase
 from change_run import compare_cases, exact_case
-from demand_3 import check_pairs, moved_in
+from demand_3 import attested_in, check_pairs, moved_in
 from refused_changes import OF_SHEET
 from running import CHUNK, ListRun, SheetRun, answer_text
 from transfer_lists import contract_volumes
@@ -23,6 +23,8 @@ MARKS = {
     "applied": ["done", "entries0", "entries1", "entriesmany", "day1", "day20", "amount0", "takerfull", "giverempty",
                 "chain", "repeated", "version2", "version3"],
 }
+
+LEAST_ATTESTED = 20  # of so many pairs less is attested in one or more: half of all have no producers
 
 # ------------------------------------------------------------------ demand 3
 
@@ -82,4 +84,5 @@ def compare_transfers(options, folder):
         return failed
     count = options.list_pairs
     found = compare_pairs(ListRun("pair-list", *where), SheetRun("pair-list-sheet", *where), count)
-    return moved_in(found, count, "pairs with a list") or changed_in(found, count)
+    what = "pairs with a list"
+    return moved_in(found, count, what) or attested_in(found, count, what, LEAST_ATTESTED) or changed_in(found, count)

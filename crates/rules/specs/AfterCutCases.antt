@@ -76,8 +76,10 @@ singleRowFigures =
     ∷ figure (actual (dayMonth 0 0 90 110 0 (supportRow 1000 ∷ [])) 0) 0
     -- the sum of m is 0, since possible power is: k4 1, and the row stays
     ∷ figure (actual (dayMonth 100000 0 90 0 0 (supportRow 1000 ∷ [])) 0) 1000
-    -- half a millionth, upward: 0.1 × 1 / 64 = 0.0015625; with n × D of 0.2, (0.3 - 0.2) × 1 / 64 too
+    -- half a millionth, upward: 0.1 × 1 / 64 = 0.0015625; below half, downward: 0.1 × 1 / 3 = 0.0333333..
     ∷ figure (begins (dayMonth 100000 100 1 64 0 (supportRow 1 ∷ [])) 1) 1563
+    ∷ figure (begins (dayMonth 100000 100 1 3 0 (supportRow 1 ∷ [])) 1) 33333
+    -- two rows begin with the volume; of a single one, with n × D of 0.2, (0.3 - 0.2) × 1 / 2 = 0.05
     ∷ figure (begins (dayMonth 100000 0 1 64 1 (supportRow 3 ∷ bilateralRow 100 ∷ [])) 3) 300000
     ∷ figure (begins (dayMonth 100000 0 1 2 1 (supportRow 3 ∷ [])) 3) 50000
     ∷ []
