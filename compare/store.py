@@ -28,7 +28,8 @@ import record_cases
 import sheets
 import text_2015_cases
 from bands import EDGES
-from coverage import MARKS_OF_COLUMNS, MARKS_OF_DAYS, MARKS_OF_DAYS_REFUSED, MARKS_OF_HUNDREDTHS, marks_of
+from coverage import (MARKS_OF_AFTER_CUT, MARKS_OF_COLUMNS, MARKS_OF_DAYS, MARKS_OF_DAYS_REFUSED, MARKS_OF_HUNDREDTHS,
+                      marks_of)
 from hour_columns import COLUMNS, HIGH_COLUMNS
 from programs import Trouble
 from records import COLUMN_HOURS, DAY_ROWS, FULL_ROWS
@@ -39,7 +40,7 @@ from versions import Draws
 
 SEED = 152
 LONGEST_SHEET = 65_000
-MOST_BYTES = 2_800_000
+MOST_BYTES = 2_950_000
 DRAWS = 40
 
 # A sheet with one producer of 28 days, up to a few rows and consumers; a sheet without producers.
@@ -131,7 +132,7 @@ TEXT_2015 = {
 
 # Sheets of version 2, each kind once, behind those of version 1 in the files that there are. All marks of request 5
 # must be reached, in the files for the settlement and in those for the text of 2015. Rows that cover part of a month,
-# and days that no month has, are with the months.
+# and days that no month has, are with the months. Corners of request 8 are with the cut; all its marks must be reached too.
 ORDERS_OF_18 = tuple(f"several_rules/{number}_and_18" for number in FIGURES if number != 18)
 VERSION_2 = {
     "checked_months": ("checked_months/producer_cut",),
@@ -157,6 +158,9 @@ VERSION_2 = {
         "row_days/k1_next_50", "row_days/k4_beside_the_cut", "row_days/credit_of_the_days",
         "refusal_18/first_0", "refusal_18/first_and_last_0", "refusal_18/last_one_before", "refusal_18/last_next",
         "refusal_18/first_and_last_past", "refusal_18/only_the_first_row", "refusal_18/only_the_last_row"),
+    "cut": ("after_cut/part_cut_of_one_support", "after_cut/all_cut_of_one_support", "after_cut/part_cut_of_one_bilateral",
+            "after_cut/penalty_at_what_is_left_alone", "after_cut/all_support_cut", "after_cut/nothing_left_of_two",
+            "after_cut/support_beside_nothing", "after_cut/bilateral_rounded_up"),
     "credits": ("credits/drawn",),
     "largest": ("largest/full_counts_31_days",),
     "damaged": ("damaged/one_byte_changed", "damaged/any_records"),
@@ -193,6 +197,9 @@ VERSION_3 = {
     "ties": ("ties/tie_average", "ties/order_of_k9_and_k10"),
     "months": (*(kind for kind in (f"columns/{corner}" for corner in COLUMNS) if kind not in LEFT_OUT),
                "row_days/both_inside_of_28", "refusal_18/only_the_last_row"),
+    "cut": ("after_cut/part_cut_of_two", "after_cut/nothing_left_of_one", "after_cut/support_on_a_half",
+            "after_cut/support_with_use_rounded_down", "after_cut/support_with_use_before_half_k2",
+            "after_cut/support_with_use_behind_one_cut_whole", "after_cut/support_with_use_beside_another"),
     "credits": ("credits/drawn",),
     "largest": ("largest/full_counts_31_days",),
     "damaged": ("damaged/one_byte_changed", "damaged/any_records"),
@@ -300,7 +307,8 @@ class Settled(NamedTuple):
 
 
 SETTLEMENT = Settled(sheets.KINDS, "batch", "marks",
-                     {**MARKS_OF_DAYS, **MARKS_OF_DAYS_REFUSED, **MARKS_OF_HUNDREDTHS, **MARKS_OF_COLUMNS})
+                     {**MARKS_OF_DAYS, **MARKS_OF_DAYS_REFUSED, **MARKS_OF_HUNDREDTHS, **MARKS_OF_COLUMNS,
+                      **MARKS_OF_AFTER_CUT})
 OLD_TEXT = Settled(text_2015_cases.KINDS, "batch2015", "marks2015", MARKS)
 
 
