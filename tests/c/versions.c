@@ -14,26 +14,26 @@
 
 /*
  * Both consumers have a contract of 100.0, the peaks are 126.0 and 105.0. S is 100.0 + 10.0, by full volumes, so 5.0
- * are cut from row 0.
+ * are cut from row 0. After the cut T is 95.0 and S 105.0.
  *
  * k1: outside use in the hours 17 to 22 is 19.5 on average in days 1 to 15 and 0 after them; 11 of the 22 control days
- * are among the first, so the average is 9.75. Nothing is deductible, n 2.0: 1 - 2.0 x 9.75 / 100.0 = 0.805.
- * k4: in days 1 to 15 m is 88.0 and 110.0 in turn, 99.0 on average, and working power reaches 88.0 and 44.0 of it,
- * 66.0; after them all 66.0 are reached: (66.0 + 66.0) / (99.0 + 66.0) = 0.8. The other coefficients are 1.
+ * are among the first, so the average is 9.75. Nothing is deductible, n 2.0: 1 - 2.0 x 9.75 / 95.0 = 0.794737.
+ * k4: in days 1 to 15 m is 88.0 and 105.0 in turn, 96.5 on average, and working power reaches 88.0 and 44.0 of it,
+ * 66.0; after them all 66.0 are reached: (66.0 + 66.0) / (96.5 + 66.0) = 0.812308. The other coefficients are 1.
  *
- * Row 0: 95.0 x 0.805 x 0.8 = 61.18, x 19 / 30 = 38.747333, rounded 38.7.
- * Row 1: 10.0 x 0.805 x 0.8 = 6.44, x 15 / 30 = 3.22, rounded 3.2, the credit of consumer 0.
+ * Row 0: 95.0 x 0.794737 = 75.500015, x 0.812308 = 61.329266, x 19 / 30 = 38.841868, rounded 38.8.
+ * Row 1: 10.0 x 0.794737 = 7.94737, x 0.812308 = 6.455712, x 15 / 30 = 3.227856, rounded 3.2, the credit of consumer 0.
  * Consumer 0: 126.0 - 3.2 = 122.8, 17.8 above 105.0, n 1.3: 100.0 + 1.3 x (17.8 - 5.0) = 116.64, rounded 116.6.
  */
 static const uint8_t settled_inside[RESULT] = {
     0, 0, 0, RESULT, 1,                                         /* length, version */
-    0, 0, 3, 182, 0, 0, 1, 131, 0, 0, 0, 0, 0, 59, 13, 48,      /* 95.0, 38.7, 3,870,000 tiyn */
+    0, 0, 3, 182, 0, 0, 1, 132, 0, 0, 0, 0, 0, 59, 52, 64,      /* 95.0, 38.8, 3,880,000 tiyn */
     0, 0, 0, 100, 0, 0, 0, 32, 0, 0, 0, 0, 0, 4, 226, 0,        /* 10.0, 3.2, 320,000 tiyn */
     0, 0, 0, 32, 0, 0, 0, 178, 13,                              /* credit 3.2, p 17.8, n 1.3 */
     0, 0, 0, 0, 0, 0, 4, 142, 0, 0, 0, 0, 0, 177, 234, 224,     /* 116.6, 11,660,000 tiyn */
     0, 0, 0, 0, 0, 0, 0, 0, 0,                                  /* no credit, no excess */
     0, 0, 0, 0, 0, 0, 3, 232, 0, 0, 0, 0, 0, 152, 150, 128,     /* 100.0, 10,000,000 tiyn */
-    0, 0, 0, 0, 0, 63, 239, 48, 0, 0, 0, 0, 1, 74, 129, 96,     /* paid 4,190,000, charged 21,660,000 tiyn */
+    0, 0, 0, 0, 0, 64, 22, 64, 0, 0, 0, 0, 1, 74, 129, 96,      /* paid 4,200,000, charged 21,660,000 tiyn */
 };
 
 /* Under the text of 2015 hours and rows have no part: 26.00 percent above 100.0, and 5.00. */
