@@ -9,6 +9,7 @@ PRODUCER_HEADS = ("producer", "attested", "deductible", "own needs", "no upward 
                   "k3", "k6", "k7", "k8", "k9", "k10")
 SERIES_HEADS = ("producer", "working", "possible", "outside", "step")
 HOUR_HEADS = ("producer", "working", "possible", "outside", "control hours", "control average", "D", "percent", "n")
+SALES_HEADS = ("producer", "rows", "T", "B", "S", "excess", "T after the cut", "S after the cut")
 CONSUMER_HEADS = ("consumer", "contract", "peak", "supplier's days", "grid's days", "z", "price")
 
 # ------------------------------------------------------------------ tables
@@ -40,6 +41,9 @@ def sheet_lines(content, names=NO_NAMES):
     starts = [place for kind, _, place, _ in header.records() if kind == "producer"][:len(sheet.producers)]
     hours = (f"Hours, the powers of {header.month.hours} hours summed, in MWh; "
              "control average of outside use and D, in MW; D in percent of deductible; n")
+    sales = ("Sales, in rows and MW: T, B, S and the excess of the sheet's volumes; "
+             "T and S after the cut, by which k1 and k4 go")
+    sellers = range(len(sheet.producers)) if 0 < header.rows == len(sheet.rows) else ()
     for title, heads, records, kind, cells_of in (
         ("Producers, in MW; counts of hours; coefficients", PRODUCER_HEADS, sheet.producers, "producer",
          lambda producer: cells(PRODUCER_FIELDS, producer)),
@@ -48,6 +52,7 @@ def sheet_lines(content, names=NO_NAMES):
         (hours, HOUR_HEADS, sheet.producers, "producer", lambda producer: hour_cells(producer, header.month)),
         ("Rows, in MW; prices in tenge", ("row", *(field.words for field in of_row)), sheet.rows, "row",
          lambda row: [*party_cells(row, names), *cells(of_row, row)[2:]]),
+        (sales, SALES_HEADS, sellers, "producer", lambda number: sales_cells(sheet, number)),
         ("Consumers, in MW; mining days; prices in tenge", CONSUMER_HEADS, sheet.consumers, "consumer",
          lambda consumer: cells(CONSUMER_FIELDS, consumer)),
     ):
@@ -108,6 +113,13 @@ def use_cells(producer, month):
     above = max(average - deductible, 0)
     p = BANDS.parts(above, deductible)
     return [OUTSIDE_USE.text(average), OUTSIDE_USE.text(above), Z.text(p), Z.text(BANDS.factor(p))]
+
+
+def sales_cells(sheet, number):
+    """The count of a producer's rows; T, B, S and the excess of their volumes; T and S after the cut."""
+    producer, rows = sheet.producers[number], sheet.rows_of(number)
+    support, _, capacity = producer.sums(producer.after_cut(rows))
+    return [str(len(rows)), *map(CAPACITY.text, (*producer.sums(rows), producer.excess(rows), support, capacity))]
 
 
 def end_lines(content, header):

@@ -3,13 +3,14 @@ the figures of a result.
 
 Layout and limits are those of document 01: "Units and the sheet", "Result" and "When a sheet is turned down"; of a
 list, of a complex, of a result under the text of 2015 and of sheets of versions 2 and 3 those of requests 1, 3, 4, 5
-and 7 of document 02; the fineness of the control average is that of request 6. Capacities, powers, volumes, peaks and
-amounts are in tenths of a megawatt, prices in tiyn, coefficients in millionths.
+and 7 of document 02; the fineness of the control average is that of request 6, and what the cut leaves is that of
+request 8. Capacities, powers, volumes, peaks and amounts are in tenths of a megawatt, prices in tiyn, coefficients in
+millionths.
 """
 import struct
 import sys
 from array import array
-from dataclasses import dataclass
+from dataclasses import dataclass, replace
 from typing import NamedTuple
 
 MOST_PRODUCERS = 6
@@ -325,6 +326,26 @@ class Producer:
     def powers(self):
         return self.working, self.possible, self.outside
 
+    def sums(self, rows):
+        """T, the volumes of its support rows; B, of its bilateral rows; S, both and deductible capacity."""
+        support = sum(row.volume for row in rows if row.consumer == SINGLE_BUYER)
+        bilateral = sum(row.volume for row in rows) - support
+        return support, bilateral, support + bilateral + self.deductible
+
+    def excess(self, rows):
+        """What S less own needs has beyond attested capacity, of its rows in the sheet."""
+        *_, capacity = self.sums(rows)
+        return max(capacity - self.own_needs - self.attested, 0)
+
+    def after_cut(self, rows):
+        """Its rows with what the excess leaves of them: each gives up what it has until the excess is used up."""
+        left, excess = [], self.excess(rows)
+        for row in rows:
+            given_up = min(row.volume, excess)
+            left.append(replace(row, volume=row.volume - given_up))
+            excess -= given_up
+        return left
+
     def to_bytes(self, version):
         hours = len(self.working)
         powers = array("I", bytes(HOUR_PACKING.size * hours))
@@ -434,9 +455,13 @@ class Sheet:
         counts = self.stated_counts or [len(self.producers), len(self.rows), len(self.consumers)]
         return HEADER_PACKING.pack(length, self.version, *self.month, *counts) + body
 
+    def rows_of(self, number):
+        """The rows of a producer, in the sheet's order."""
+        return [row for row in self.rows if row.producer == number]
+
     def volume_of(self, number):
         """T + B of a producer: the volumes of all its rows."""
-        return sum(row.volume for row in self.rows if row.producer == number)
+        return sum(row.volume for row in self.rows_of(number))
 
 
 def rearranged(content):

@@ -46,7 +46,8 @@ def of_row(row, before, month):
     yield from of_noughts(volume=row.volume, price=row.price)
     for number, other in enumerate(before):
         if (other.producer, other.consumer) == (row.producer, row.consumer) and on_other_days(row, other, month):
-            yield f"it has the producer and the buyer of row {number}, on other days; both count whole in the cut, T and S"
+            yield (f"it has the producer and the buyer of row {number}, on other days; "
+                   "in the cut, T and S both count as if they covered the month")
 
 
 def on_other_days(row, other, month):

@@ -50,7 +50,8 @@ UNLIKELY = [
     ([('volume = "100.0"\nprice = "1000.05"', 'volume = "0"\nprice = "1000.05"')], "row 0: volume is 0"),
     ([('price = "1000.05"', 'price = "0"')], "row 0: price is 0"),
     ([(ROW, f"{ROW}first_day = 1\nlast_day = 15\n{ROW}first_day = 16\nlast_day = 28\n")],
-     "row 1: it has the producer and the buyer of row 0, on other days; both count whole in the cut, T and S"),
+     "row 1: it has the producer and the buyer of row 0, on other days; in the cut, T and S both count as if they "
+     "covered the month"),
     ([('price = "1000.00"', 'price = "0"')], "consumer 0: price is 0"),
     ([('peak = "126.0"', 'peak = "150.1"')],
      "consumer 0: no row names it, and its peak is far above its contract volume: 150.1 MW and 100.0 MW"),

@@ -127,6 +127,20 @@ def run_here(command, *words, stdin=b"", folder=None):
     return subprocess.CompletedProcess(words, status, out.buffer.getvalue(), err.buffer.getvalue())
 
 
+def shown_table(title, *words, **more):
+    """The table of `show` that begins with a title; nothing if there is none."""
+    parts = sheet("show", *words, **more).stdout.decode().rstrip("\n").split("\n\n")
+    return next((part for part in parts if part.startswith(title)), "")
+
+
+def check_example(name, title):
+    """examples/README.md has a table that show prints of an example, and the lines of its listing."""
+    readme, table = (EXAMPLES / "README.md").read_text(), shown_table(title, EXAMPLES / f"{name}.toml")
+    check(table and f"```\n{table}\n```\n" in readme, f"examples/README.md has a table of {name}", table)
+    for line in (EXAMPLES / f"{name}.listing").read_text().splitlines():
+        check(f"`{line}`" in readme, f"examples/README.md has {line}")
+
+
 def words_of(done):
     """What is printed of a command whose check fails."""
     said = (done.stdout + done.stderr).decode(errors="replace")

@@ -19,6 +19,7 @@ DRAWN = 1000
 WITH_DAYS = 200     # of the drawn sheets are taken with days too, half of them with hours as columns
 ROUND_TRIPS = 400   # of the drawn sheets, beside those with days; most get past refusal 6
 BY_COMMAND = 6      # of these, of each version, go through the commands
+BY_TRACE = 300      # of those that are accepted and have producers
 MOST_REPAIRS = 12   # of one sheet
 
 
@@ -36,6 +37,16 @@ def by_rival(cases):
     """The rival's answers."""
     with tempfile.TemporaryDirectory() as folder:
         return programs.rival_answers(cases, folder)
+
+
+def traces(cases, answers):
+    """Drawn sheets that are accepted and have producers, each with what the rival's trace prints."""
+    accepted = [case.sheet for case, answer in zip(cases, answers) if isinstance(answer, bytes) and case.sheet[11]]
+    with tempfile.TemporaryDirectory() as folder:
+        path = Path(folder) / "month.sheet"
+        for content in accepted[:BY_TRACE]:
+            path.write_bytes(content)
+            yield records.Sheet.from_bytes(content), run(programs.RIVAL, "trace", path).stdout.decode()
 
 
 def covers_month(content):

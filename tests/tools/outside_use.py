@@ -2,17 +2,14 @@
 and n. A complex's record keeps its tenth."""
 import random
 import re
-import tempfile
 from array import array
 from fractions import Fraction
-from pathlib import Path
 
+import drawn
 import printing
-import programs
 import records
-from checks import EXAMPLES, check, run, sheet, words_of
+from checks import EXAMPLES, check, check_example, sheet, words_of
 
-BY_TRACE = 40    # of the drawn sheets that are accepted and have producers
 TRACED = re.compile(r"control hours (\d+), their sum .*, average (.*), D (.*), p (\d+), n (.*)")
 
 # 28 days from a Monday have 120 control hours. Outside use in all of them, in tenths; in how many of them it is a tenth
@@ -93,20 +90,15 @@ def test_averages():
 
 
 def test_by_rival(cases, answers):
-    """The same figures as in the rival's trace, on drawn sheets; in most of them hundredths are left over."""
-    accepted = [case.sheet for case, answer in zip(cases, answers) if isinstance(answer, bytes) and case.sheet[11]]
+    """The same figures as in the rival's trace, on drawn sheets; in many of them hundredths are left over."""
     fine = 0
-    with tempfile.TemporaryDirectory() as folder:
-        path = Path(folder) / "month.sheet"
-        for content in accepted[:BY_TRACE]:
-            path.write_bytes(content)
-            traced = TRACED.findall(run(programs.RIVAL, "trace", path).stdout.decode())
-            wanted = [[hours, average, over, records.Z.text(int(p)), n] for hours, average, over, p, n in traced]
-            found = records.Sheet.from_bytes(content)
-            cells = [printing.hour_cells(producer, found.month)[3:] for producer in found.producers]
-            check(cells == wanted, "show: outside use by the rival's trace", f"{cells}\n{wanted}")
-            fine += any(not average.endswith("0") for _, average, *_ in wanted)
-    check(fine >= BY_TRACE // 2, f"show: only {fine} drawn sheets have an average that is no whole tenth")
+    for found, trace in drawn.traces(cases, answers):
+        wanted = [[hours, average, over, records.Z.text(int(p)), n]
+                  for hours, average, over, p, n in TRACED.findall(trace)]
+        cells = [printing.hour_cells(producer, found.month)[3:] for producer in found.producers]
+        check(cells == wanted, "show: outside use by the rival's trace", f"{cells}\n{wanted}")
+        fine += any(not average.endswith("0") for _, average, *_ in wanted)
+    check(fine >= drawn.BY_TRACE // 3, f"show: only {fine} drawn sheets have an average that is no whole tenth")
 
 
 def test_complex(folder):
@@ -122,9 +114,4 @@ def test_complex(folder):
 
 def test_example():
     """examples/README.md has what show says of the hours of `small-deductible`, and its listing."""
-    readme = (EXAMPLES / "README.md").read_text()
-    parts = sheet("show", EXAMPLES / "small-deductible.toml").stdout.decode().split("\n\n")
-    hours = next(part for part in parts if part.startswith("Hours, "))
-    check(f"```\n{hours}\n```\n" in readme, "examples/README.md has the hours of small-deductible", hours)
-    for line in (EXAMPLES / "small-deductible.listing").read_text().splitlines():
-        check(f"`{line}`" in readme, f"examples/README.md has {line}")
+    check_example("small-deductible", "Hours, ")
