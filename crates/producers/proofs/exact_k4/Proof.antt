@@ -1,4 +1,4 @@
-use mathlib.Core.Path.{_≡_, refl, sym}
+use mathlib.Core.Path.{_≡_, refl}
 use Prim.Native.Nat.{ℕ, zero, suc}
 use Rattle.rules.specs.Coefficients.{ratio, metOver}
 use Rattle.producers.proofs.exact_k4.Statement.{statement}

@@ -1,12 +1,10 @@
 use mathlib.Core.Path.{sym, ap, ap₂, _∙_}
-use Prim.Native.Nat.{ℕ}
 use Rattle.rules.specs.Coefficients.{metOver, exactK4}
 use Rattle.units.specs.declared.Hundredths.{Hundredths}
 use Rattle.refusals_powers.specs.Powers.{highPowers}
 use Rattle.hours.specs.declared.figures.HourFigures.{HourFigures}
 use Rattle.hours.proofs.Found.{high-found, sums-found, average-found}
 use Rattle.producers.proofs.Hours.{sums-known, average-is, met-fits}
-use native.Mathlib.Omega.{arith}
 use borrow.Author.Needs.{needs}
 use Rattle.producers.proofs.hours_of.Statement.{statement}
 use Rattle.producers.proofs.hours_of.Tie as tie

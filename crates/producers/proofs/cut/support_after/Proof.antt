@@ -2,7 +2,6 @@ use mathlib.Core.Path.{sym, ap, _∙_}
 use Rattle.rules.specs.Coefficients.{cutSupport}
 use Rattle.laws.proofs.Cut.{support-kept}
 use Rattle.volumes.specs.declared.Volumes.{Volumes}
-use borrow.Author.Needs.{needs}
 use Rattle.producers.proofs.cut.support_after.Statement.{statement}
 use Rattle.producers.proofs.cut.support_after.Tie as tie
 

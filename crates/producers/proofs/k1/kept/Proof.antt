@@ -1,4 +1,4 @@
-use mathlib.Core.Path.{_≡_, refl, sym}
+use mathlib.Core.Path.{_≡_, refl}
 use Prim.Native.Nat.{ℕ, zero, suc, zero-le, _≤_}
 use native.Mathlib.Omega.{arith}
 use Rattle.rules.specs.Units.{tenthsCeiling, inThousandths}
