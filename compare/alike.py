@@ -53,10 +53,10 @@ ALIKE = [
       "Consumers.charge: money (volume m c) (m .consumer c .price) → money (m .consumer c .price) (volume m c)",
       "Text2015.charge2015: money (volume2015 m c) (m .consumer c .price) → "
       "money (m .consumer c .price) (volume2015 m c)",
-      "Rows.begun: asOneFraction volume (exactK1 (m .header) (m .producer p) (cutSupport m p)) "
-      "(exactK4 (m .header) (m .producer p) (cutCapacity m p)) → "
-      "asOneFraction volume (exactK4 (m .header) (m .producer p) (cutCapacity m p)) "
-      "(exactK1 (m .header) (m .producer p) (cutSupport m p))"]),
+      "Rows.begun: asOneFraction volume (exactK1 (m .header) (m .producer p) (supportAfter m p)) "
+      "(exactK4 (m .header) (m .producer p) (capacityAfter m p)) → "
+      "asOneFraction volume (exactK4 (m .header) (m .producer p) (capacityAfter m p)) "
+      "(exactK1 (m .header) (m .producer p) (supportAfter m p))"]),
     ("a support row names consumer 255, and no sheet has so many consumers (number 5)",
      ["Consumers.credited: bilateral m j && eqb (m .row j .consumer) c → eqb (m .row j .consumer) c"]),
     ("a byte past the end is read only of a sheet that number 1 or 6 refuses, whatever that byte is",

@@ -16,11 +16,11 @@ SUM_MET, SUM_ASKED = "(sum (met p S) (hours h))", "(sum (asked p S) (hours h))"
 # Texts of Rows and Cut: k1 and k4 in the one fraction of a single row, the coefficients that follow it, and the count
 # of a producer's rows. And k1 and k4 rounded to a millionth before.
 OF_PRODUCER = "(m .header) (m .producer p)"
-K1_EXACT, K4_EXACT = f"(exactK1 {OF_PRODUCER} (cutSupport m p))", f"(exactK4 {OF_PRODUCER} (cutCapacity m p))"
+K1_EXACT, K4_EXACT = f"(exactK1 {OF_PRODUCER} (supportAfter m p))", f"(exactK4 {OF_PRODUCER} (capacityAfter m p))"
 FOLLOWING = f"(others {OF_PRODUCER})"
 COUNTED, IS_SINGLE = "when (owns m p j) 1", "eqb (rowCount m p) 1"
-K1_ROUNDED = "Rows", K1_EXACT, f"(ratio (k1 {OF_PRODUCER} (cutSupport m p)) one)"
-K4_ROUNDED = "Rows", K4_EXACT, f"(ratio (k4 {OF_PRODUCER} (cutCapacity m p)) one)"
+K1_ROUNDED = "Rows", K1_EXACT, f"(ratio (k1 {OF_PRODUCER} (supportAfter m p)) one)"
+K4_ROUNDED = "Rows", K4_EXACT, f"(ratio (k4 {OF_PRODUCER} (capacityAfter m p)) one)"
 T_BEFORE = "Coefficients", T_AFTER, "supportVolume m (sold m) p"
 S_BEFORE = "Coefficients", S_AFTER, "summedCapacity m (sold m) p"
 
@@ -131,7 +131,7 @@ SLIPS = [
      ("Rows",
       "(begun m (m .row j .producer) (afterCut m j))",
       "(cond (single m (m .row j .producer) && bilateral m j) (asOneFraction (afterCut m j) (ratio 1 1) (exactK4 (m "
-      ".header) (m .producer (m .row j .producer)) (cutCapacity m (m .row j .producer)))) (begun m (m .row j "
+      ".header) (m .producer (m .row j .producer)) (capacityAfter m (m .row j .producer)))) (begun m (m .row j "
       ".producer) (afterCut m j)))")),
     ("the two bid ratios multiplied",
      ("Coefficients",

@@ -28,6 +28,7 @@ use Rattle.rules.specs.Cut.{
   cutInOrder,
   ownRows,
 }
+use Rattle.laws.specs.ShortForm.{leftAfterCut}
 use Rattle.laws.proofs.Range.{sum-more, sum-mono, sum-same, one-passed, sum-only, one-found, when-mono, when-both, when-split}
 
 -- The turn of a loop over the rows: a row of its own gives as much as it has and counts in T, another's does neither.
@@ -107,10 +108,7 @@ module _ (m : Month) (p : ℕ) where
       go true q e = rw (cut-last, kept (eqb-true _ _ q), e)
       go false q e = append-nil cut ∙ e ∙ ap (cutInOrder (excess m p)) (sym (append-nil own))
 
--- What the cut leaves in all of producer p's rows: T + B less the excess.
-abbrev pub left : Month → ℕ → ℕ
-left m p = supportVolume m (sold m) p + bilateralVolume m (sold m) p - excess m p
-
+-- What the cut leaves in all.
 module _ (m : Month) (p : ℕ) where
   -- A producer's support and bilateral rows are all its rows.
   pub own-split : (v : ℕ → ℕ) (n : ℕ) → sum (ownVolume m v p) n ≡ sum (ownSupport m v p) n + sum (ownBilateral m v p) n
@@ -134,7 +132,7 @@ module _ (m : Month) (p : ℕ) where
       go false q e = omega (arith, e)
 
   -- S after the cut.
-  pub summed-after : summedCapacity m (afterCut m) p ≡ left m p + m .producer p .deductible
+  pub summed-after : summedCapacity m (afterCut m) p ≡ leftAfterCut m p + m .producer p .deductible
   unfolding summedCapacity supportVolume bilateralVolume
   summed-after =
       let n = m .header .rows in omega (arith, own-split (afterCut m) n, own-split (sold m) n, total-after n)
@@ -145,7 +143,7 @@ module _ (m : Month) (p : ℕ) where
   support-le = sum-mono _ _ refl (λ j l. when-mono _ (cut-le-volume m j))
 
   -- Without bilateral rows all of it is T.
-  pub support-all : bilateralVolume m (sold m) p ≡ 0 → supportVolume m (afterCut m) p ≡ left m p
+  pub support-all : bilateralVolume m (sold m) p ≡ 0 → supportVolume m (afterCut m) p ≡ leftAfterCut m p
   unfolding supportVolume bilateralVolume
   support-all none =
       let n = m .header .rows in
@@ -190,13 +188,13 @@ module _ (m : Month) (p : ℕ) (alone : single m p ≡ true) (j : ℕ) (l : j < 
   unfolding summedCapacity supportVolume bilateralVolume
   single-summed v = omega (arith, own-split m p v (m .header .rows), single-own v)
 
-  -- All of the excess is taken from it.
-  pub single-after : afterCut m j ≡ left m p
+  -- The whole cut is its own.
+  pub single-after : afterCut m j ≡ leftAfterCut m p
   unfolding supportVolume bilateralVolume
   single-after =
       let n = m .header .rows in omega (arith, single-own (afterCut m), total-after m p n, own-split m p (sold m) n)
 
--- A single row that is bilateral leaves T nothing.
+-- A single bilateral row has T 0.
 pub single-bilateral : (m : Month) (p : ℕ) → single m p ≡ true → 0 < bilateralVolume m (sold m) p → supportVolume m (afterCut m) p ≡ 0
 unfolding single rowCount owns
 single-bilateral m p alone some = one-found (owns m p) (m .header .rows) (eqb-true _ _ alone) (λ j l t. of-kind j l (eqb-true _ _ t) (support m j) refl)

@@ -79,7 +79,7 @@ unfolding when
 when-le true v = le-refl v
 when-le false v = zero-le
 
--- Two tests hold, so the one and the other.
+-- Where two tests hold; where one does, with the other or without it.
 pub when-both : (a b : Bool) (v : ℕ) → when (a && b) v ≡ when a (when b v)
 unfolding when
 when-both true b v = refl
@@ -144,6 +144,7 @@ module _ (test : ℕ → Bool) where
       go true t q rest = with-it n (omega arith) t
       go false t q rest = rest (omega (arith, q))
 
+-- Two tests hold, so the one and the other.
 pub both : (a b : Bool) → (a && b) ≡ true → (a ≡ true) × (b ≡ true)
 both true b e = (refl, e)
 both false b e = absurd (true≢false (sym e))

@@ -1,7 +1,7 @@
 -- A producer's terms before the first row, and the array that holds them. Assumes nothing.
 use mathlib.Core.Path.{_≡_, refl, sym, ap}
 use mathlib.Core.Bool.{Bool, true, false, _||_}
-use mathlib.Core.List.{List, _∷_}
+use mathlib.Core.List.{List}
 use Prim.Native.Nat.{ℕ, zero, suc, _+_, _-_, _≤_, _<_}
 use native.Mathlib.Omega.{arith}
 use borrow.Author.Tests.{eq-eqb, ne-eqb, le-ltb, ltb-true}
@@ -16,13 +16,14 @@ use Rattle.rules.specs.Limits.{HeaderLimits}
 use Rattle.rules.specs.Cut.{sold, ownVolume, bilateralVolume, summedCapacity, excess, leftToCut, rowCount, single}
 use Rattle.rules.specs.Units.{one, hundredth}
 use Rattle.rules.specs.ControlHours.{controlAverage}
-use Rattle.rules.specs.Coefficients.{millionthsOf, overuse, penalty, lessPenalty, exactK1, k1, k2, metOver, exactK4, k4, k5, fromK5, inOrder, cutSupport, cutCapacity, coefficients}
+use Rattle.rules.specs.Coefficients.{millionthsOf, overuse, penalty, lessPenalty, exactK1, k1, k2, metOver, exactK4, k4, k5, fromK5, inOrder, supportAfter, capacityAfter, coefficients}
 use Rattle.rules.specs.Rows.{begun}
 use Rattle.rules.specs.Range.{listed}
 use Rattle.laws.proofs.Range.{sum-none, any-start, any-fold, any-clear}
 use Rattle.laws.proofs.Arrays.{Agrees, agrees-as, listed-agrees, filled}
 use Rattle.laws.proofs.ControlTable.{is-in-table}
-use Rattle.laws.proofs.Cut.{left, summed-after, support-le}
+use Rattle.laws.specs.ShortForm.{leftAfterCut}
+use Rattle.laws.proofs.Cut.{summed-after, support-le}
 use Rattle.laws.proofs.Coefficients.{k4-part}
 use Rattle.laws.proofs.Rows.{single-short}
 use Rattle.units.specs.Sums.{tenths, millionths}
@@ -31,7 +32,7 @@ use Rattle.volumes.specs.declared.Volumes.{Volumes}
 use Rattle.volumes.specs.Volumes.{mostVolume, Fits, volumesOf, noVolumes}
 use Rattle.refusals_sheet.specs.Numbers.{highHours}
 use Rattle.producers.specs.declared.Terms.{Terms}
-use Rattle.producers.specs.Terms.{mostMet, penaltyFrom, ksFrom, singleProduct, singleFactors, sharedFactors, factorsOf, highIn, noTerms, zeroTerms, withTerms, ownTerms, termsBelow, termsOf, Known}
+use Rattle.producers.specs.Terms.{mostMet, penaltyFrom, ksFrom, singleProduct, withBoth, singleFactors, sharedFactors, factorsOf, highIn, noTerms, zeroTerms, withTerms, ownTerms, termsBelow, termsOf, Known}
 
 -- The excess and what it leaves, from what the rows add up to and from stated figures.
 module _ (l : Layout) (s : List ℕ) (p : ℕ) {v : Volumes} {x : Stated} (known : v ≡ volumesOf (monthUnder l s) p) (stated : x ≡ statedOf s (producerAt l p)) where
@@ -39,18 +40,17 @@ module _ (l : Layout) (s : List ℕ) (p : ℕ) {v : Volumes} {x : Stated} (known
   unfolding excess summedCapacity
   excess-is e = rw (e, known, stated)
 
-  pub left-is : {e n : ℕ} → e ≡ excess (monthUnder l s) p → n ≡ v .support .0 + v .bilateral .0 - e → n ≡ left (monthUnder l s) p
+  pub left-is : {e n : ℕ} → e ≡ excess (monthUnder l s) p → n ≡ v .support .0 + v .bilateral .0 - e → n ≡ leftAfterCut (monthUnder l s) p
   left-is over n = rw (n, over, known)
 
   -- S after the cut.
-  pub capacity-is : {n : ℕ} → n ≡ left (monthUnder l s) p → n + x .deductible ≡ cutCapacity (monthUnder l s) p
-  unfolding cutCapacity
+  pub capacity-is : {n : ℕ} → n ≡ leftAfterCut (monthUnder l s) p → n + x .deductible ≡ capacityAfter (monthUnder l s) p
+  unfolding capacityAfter
   capacity-is n = rw (n, stated) (sym (summed-after (monthUnder l s) p))
 
 -- k1 to k10 from a producer's stated figures, k1 and k4.
 pub ks-known : (l : Layout) (s : List ℕ) (p : ℕ) {x : Stated} → x ≡ statedOf s (producerAt l p) → (first fourth : ℕ)
-    → ksFrom (l .header) x first fourth
-    ≡ first ∷ k2 (l .header) (producerUnder l s p) ∷ producerUnder l s p .k3 ∷ fourth ∷ fromK5 (l .header) (producerUnder l s p)
+    → ksFrom (l .header) x first fourth ≡ withBoth (l .header) (producerUnder l s p) first fourth
 unfolding k2 k5 fromK5
 ks-known l s p stated first fourth = rw stated
 
@@ -75,27 +75,24 @@ module _ (m : Month) (p : ℕ) where
   unfolding single
   alone e = eq-eqb _ _ e
 
-  abbrev withBoth : ℕ → ℕ → List ℕ
-  withBoth first fourth = first ∷ k2 (m .header) (m .producer p) ∷ m .producer p .k3 ∷ fourth ∷ fromK5 (m .header) (m .producer p)
-
   pub single-known : {b : Bool} {volume x : ℕ} {k : Ratio} {ks : List ℕ} → rowCount m p ≡ 1
-      → b ≡ eqb (bilateralVolume m (sold m) p) 0 → volume ≡ left m p → x ≡ penalty (m .header) (m .producer p)
-      → k ≡ exactK4 (m .header) (m .producer p) (cutCapacity m p) → ks ≡ withBoth one one
+      → b ≡ eqb (bilateralVolume m (sold m) p) 0 → volume ≡ leftAfterCut m p → x ≡ penalty (m .header) (m .producer p)
+      → k ≡ exactK4 (m .header) (m .producer p) (capacityAfter m p) → ks ≡ withBoth (m .header) (m .producer p) one one
       → singleFactors (millionths (singleProduct b volume x k)) ks ≡ factorsOf m p
   unfolding singleProduct begun
   single-known e kind volume over fourth ks =
-      let short = single-short m p (alone e) (exactK4 (m .header) (m .producer p) (cutCapacity m p)) (k4-part (m .header) (m .producer p) (cutCapacity m p) .1) in
+      let short = single-short m p (alone e) (exactK4 (m .header) (m .producer p) (capacityAfter m p)) (k4-part (m .header) (m .producer p) (capacityAfter m p) .1) in
       rw (kind, volume, over, fourth, ks, sym short, alone e)
 
-  pub shared-known : {T x : ℕ} {k : Ratio} {ks : List ℕ} → (rowCount m p ≡ 1 → ⊥) → T ≡ cutSupport m p → x ≡ penalty (m .header) (m .producer p)
-      → k ≡ exactK4 (m .header) (m .producer p) (cutCapacity m p) → ks ≡ withBoth (millionthsOf (lessPenalty T x)) (millionthsOf k)
+  pub shared-known : {T x : ℕ} {k : Ratio} {ks : List ℕ} → (rowCount m p ≡ 1 → ⊥) → T ≡ supportAfter m p → x ≡ penalty (m .header) (m .producer p)
+      → k ≡ exactK4 (m .header) (m .producer p) (capacityAfter m p) → ks ≡ withBoth (m .header) (m .producer p) (millionthsOf (lessPenalty T x)) (millionthsOf k)
       → sharedFactors ks ≡ factorsOf m p
   unfolding single coefficients inOrder k1 exactK1 k4
   shared-known n support over fourth ks = rw (ks, support, over, fourth, ne-eqb _ _ n)
 
   -- T after the cut fits.
-  pub support-fits : {v : Volumes} {T : ℕ} → v ≡ volumesOf m p → Fits v → T ≡ cutSupport m p → T ≤ mostVolume
-  unfolding cutSupport
+  pub support-fits : {v : Volumes} {T : ℕ} → v ≡ volumesOf m p → Fits v → T ≡ supportAfter m p → T ≤ mostVolume
+  unfolding supportAfter
   support-fits known fits e = omega (arith, e, support-le m p, ap (λ (x : Volumes). x .support .0) known, fits .0)
 
 -- A producer's terms, where no power of its hours is above the ceiling.

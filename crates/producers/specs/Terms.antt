@@ -9,7 +9,7 @@ use Rattle.rules.specs.declared.Header.{Header}
 use Rattle.rules.specs.declared.Layout.{Layout}
 use Rattle.rules.specs.declared.Stated.{Stated}
 use Rattle.rules.specs.declared.Ratio.{Ratio}
-use Rattle.rules.specs.Month.{Month, hours}
+use Rattle.rules.specs.Month.{Producer, Month, hours}
 use Rattle.rules.specs.Sheet.{sheetLength, producerUnder, monthUnder}
 use Rattle.rules.specs.Units.{one, hundredth, inHundredths}
 use Rattle.rules.specs.ControlHours.{controlAverage}
@@ -21,9 +21,8 @@ use Rattle.rules.specs.Rows.{begun}
 use Rattle.rules.specs.Refusals.{tooHigh}
 use Rattle.rules.specs.Outcome.{within}
 use Rattle.laws.specs.Bounds.{mostWord}
-use Rattle.laws.specs.ShortForm.{kept, inShort}
+use Rattle.laws.specs.ShortForm.{leftAfterCut, kept, inShort}
 use Rattle.laws.proofs.Arrays.{Agrees, filled}
-use Rattle.laws.proofs.Cut.{left}
 use Rattle.units.specs.declared.Millionths.{Millionths}
 use Rattle.units.specs.Sums.{tenths, millionths}
 use Rattle.row_figures.specs.declared.Factors.{Factors}
@@ -68,10 +67,14 @@ singleProduct support volume penalty k4 = cond (tooHigh volume) 0 (inShort (kept
 -- What producer p's rows are multiplied by: a single row begins with what the definitions have for its volume after the cut, and has 1 in the
 -- place of k1 and k4. [Rows; Requests, 8]
 abbrev pub productOf : Month → ℕ → ℕ
-productOf m p = cond (single m p) (cond (tooHigh (left m p)) 0 (begun m p (left m p))) 0
+productOf m p = cond (single m p) (cond (tooHigh (leftAfterCut m p)) 0 (begun m p (leftAfterCut m p))) 0
+
+-- k1 to k10 with given numbers in the place of k1 and k4. [Rows]
+abbrev pub withBoth : Header → Producer → ℕ → ℕ → List ℕ
+withBoth h p first fourth = first ∷ k2 h p ∷ p .k3 ∷ fourth ∷ fromK5 h p
 
 abbrev pub ksOf : Month → ℕ → List ℕ
-ksOf m p = cond (single m p) (one ∷ k2 (m .header) (m .producer p) ∷ m .producer p .k3 ∷ one ∷ fromK5 (m .header) (m .producer p)) (coefficients m p)
+ksOf m p = cond (single m p) (withBoth (m .header) (m .producer p) one one) (coefficients m p)
 
 -- Those of a producer with a single row, and of one with more or none.
 abbrev pub singleFactors : Millionths → List ℕ → Factors

@@ -4,7 +4,7 @@ ghost use Prim.Native.Nat.{_<_, _≤_};
 ghost use lib.ListN.{length};
 ghost use Rattle.rules.specs.Sheet.{sheetLength, monthUnder};
 ghost use Rattle.rules.specs.Cut.{excess};
-ghost use Rattle.rules.specs.Coefficients.{cutSupport};
+ghost use Rattle.rules.specs.Coefficients.{supportAfter};
 ghost use Rattle.volumes.specs.Volumes.{mostVolume, volumesOf};
 ghost use Rattle.producers.specs.After.{cutRow};
 use rules::Layout;
@@ -42,10 +42,10 @@ fn cut_row(c: CutRows, r: Row) -> CutRows
 }
 
 // T of producer p after its excess is cut from its rows in sheet order.
-fn cut_support(s: &[u8], layout: Layout, p: u8, over: Tenths) -> Tenths
+fn support_by_rows(s: &[u8], layout: Layout, p: u8, over: Tenths) -> Tenths
     requires { ⌜ sheetLength layout ≤ length (now s) ⌝ }
     requires { ⌜ over .0 ≡ excess (monthUnder layout (now s)) p ⌝ }
-    ensures { λ r. ⌜ r .0 ≡ cutSupport (monthUnder layout (now (s .entry))) p ⌝ }
+    ensures { λ r. ⌜ r .0 ≡ supportAfter (monthUnder layout (now (s .entry))) p ⌝ }
 {
     let mut c = CutRows {
         left: over,
@@ -66,10 +66,10 @@ fn cut_support(s: &[u8], layout: Layout, p: u8, over: Tenths) -> Tenths
 pub(crate) fn support_after(s: &[u8], layout: Layout, p: u8, v: Volumes, over: Tenths) -> Tenths
     requires { ⌜ sheetLength layout ≤ length (now s) ⌝ }
     requires { ⌜ (v ≡ volumesOf (monthUnder layout (now s)) p) × (over .0 ≡ excess (monthUnder layout (now s)) p) ⌝ }
-    ensures { λ r. ⌜ r .0 ≡ cutSupport (monthUnder layout (now (s .entry))) p ⌝ }
+    ensures { λ r. ⌜ r .0 ≡ supportAfter (monthUnder layout (now (s .entry))) p ⌝ }
 {
     if over.0 == 0 {
         return v.support;
     }
-    cut_support(s, layout, p, over)
+    support_by_rows(s, layout, p, over)
 }

@@ -1,4 +1,4 @@
-// What a producer's rows are settled by: its excess and its coefficients, from any bytes under any header.
+// What a producer's rows are settled by: its excess and what they are multiplied by, from any bytes under any header.
 mod cut;
 mod k1;
 
@@ -214,6 +214,7 @@ fn terms_of(s: &[u8], layout: Layout, p: u8, v: Volumes, control: ControlDays) -
     }
     let penalty = penalty_of(f.average, x.deductible);
     let k4 = exact_k4(f.sums);
+    // Without bilateral volume the single row is a support row, or has no volume: then both kinds give nothing.
     if v.rows == 1 {
         let bilateral = v.bilateral;
         let product = single_product(bilateral.0 == 0, left, penalty, k4);
@@ -247,7 +248,7 @@ fn with_terms(s: &[u8], layout: Layout) -> u8
     }
 }
 
-// The excess and the coefficients of six producers, before the first row, and number 9 of their hours.
+// The excess and the factors of six producers, before the first row, and number 9 of their hours.
 pub fn all_terms(s: &[u8], layout: Layout) -> AllTerms
     ensures { λ r. ⌜ r .of ≡ listed (termsOf layout (now (s .entry))) 6 ⌝ }
     ensures high { λ r. ⌜ r .high ≡ highHours layout (now (s .entry)) (withTerms layout (now (s .entry))) ⌝ }

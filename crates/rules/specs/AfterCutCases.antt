@@ -3,7 +3,7 @@ use Prim.Native.Nat.{ℕ}
 use mathlib.Core.List.{List, [], _∷_, _++_}
 use Rattle.rules.specs.Month.{Row, Month}
 use Rattle.rules.specs.Cut.{afterCut, rowCount}
-use Rattle.rules.specs.Coefficients.{cutSupport, cutCapacity}
+use Rattle.rules.specs.Coefficients.{supportAfter, capacityAfter}
 use Rattle.rules.specs.Rows.{begun, actual, payment}
 use Rattle.rules.specs.Consumers.{credit}
 use Rattle.rules.specs.Samples.{producer, row, consumer, month, every, firstHours, k1, k4, Figure, figure, wrong}
@@ -39,8 +39,8 @@ unfoldable pub singleRowFigures : List Figure
 singleRowFigures =
     -- document 01's producer with attested 105.0: the row is cut to 95.0, T is 95.0 and S 105.0; 95 × 99 / 105 = 89.571429, and × 0.9 = 80.614286.
     -- With attested 110.0, 100 × 99 / 110 = 90, and × 0.9 = 81.0
-    figure (cutSupport (producerMonth 1050 100) 0) 950
-    ∷ figure (cutCapacity (producerMonth 1050 100) 0) 1050
+    figure (supportAfter (producerMonth 1050 100) 0) 950
+    ∷ figure (capacityAfter (producerMonth 1050 100) 0) 1050
     ∷ figure (begins (producerMonth 1050 100) 950) 89571429
     ∷ figure (actual (producerMonth 1050 100) 0) 806
     ∷ figure (begins (producerMonth 1100 100) 1000) 90000000
@@ -67,8 +67,8 @@ singleRowFigures =
     ∷ figure (actual (dayMonth 50 0 40 100 0 (supportRow 100 ∷ [])) 0) 40
     -- a row cut to 0: deductible 10.0 is S, and k4 9 / 10
     ∷ figure (afterCut (dayMonth 100 100 90 110 0 (supportRow 1000 ∷ [])) 0) 0
-    ∷ figure (cutSupport (dayMonth 100 100 90 110 0 (supportRow 1000 ∷ [])) 0) 0
-    ∷ figure (cutCapacity (dayMonth 100 100 90 110 0 (supportRow 1000 ∷ [])) 0) 100
+    ∷ figure (supportAfter (dayMonth 100 100 90 110 0 (supportRow 1000 ∷ [])) 0) 0
+    ∷ figure (capacityAfter (dayMonth 100 100 90 110 0 (supportRow 1000 ∷ [])) 0) 100
     ∷ figure (k4 (dayMonth 100 100 90 110 0 (supportRow 1000 ∷ []))) 900000
     ∷ figure (actual (dayMonth 100 100 90 110 0 (supportRow 1000 ∷ [])) 0) 0
     -- the sum of m is 0 after the cut: S is 0 and k4 1
@@ -84,8 +84,8 @@ singleRowFigures =
     ∷ figure (begins (dayMonth 100000 0 1 2 1 (supportRow 3 ∷ [])) 3) 50000
     ∷ []
 
--- A single support row of 0.1 with hours of 24 without a bid and without a plan, k3, and working power of possible 2,500.0, below which S does not come:
--- deductible capacity is 2,500.0.
+-- A single support row of 0.1, with hours of 24 without an upward bid and without a plan, given coefficients and working power. Possible power
+-- and deductible capacity are 2,500.0, and so is m.
 unfoldable pub shortMonth : ℕ → ℕ → List ℕ → (ℕ → ℕ) → Month
 shortMonth up plan given working =
     month 1 1 0
@@ -118,7 +118,7 @@ moreRowFigures =
     ∷ figure (actual (usedMonth (supportRow 23 ∷ bilateralRow 0 ∷ [])) 0) 17
     -- and so is one that is cut whole
     ∷ figure (afterCut goneMonth 0) 0
-    ∷ figure (cutSupport goneMonth 0) 23
+    ∷ figure (supportAfter goneMonth 0) 23
     ∷ figure (actual goneMonth 0) 0
     ∷ figure (actual goneMonth 1) 17
     -- another producer's row is not counted

@@ -78,7 +78,7 @@ k5 h p = share (hours h - p .noPlan) (hours h)
 unfoldable pub fromK5 : Header → Producer → List ℕ
 fromK5 h p = k5 h p ∷ p .k6 ∷ p .k7 ∷ p .k8 ∷ p .k9 ∷ p .k10 ∷ []
 
--- k1 to k10, in the order in which a row's volume is multiplied by them. [Rows; p. 43]
+-- k1 to k10, in the order in which a row's volume is multiplied by them where its producer has more than one row. [Rows; p. 43]
 unfoldable pub inOrder : Header → Producer → ℕ → ℕ → List ℕ
 inOrder h p T S = k1 h p T ∷ k2 h p ∷ p .k3 ∷ k4 h p S ∷ fromK5 h p
 
@@ -87,12 +87,12 @@ unfoldable pub others : Header → Producer → List ℕ
 others h p = k2 h p ∷ p .k3 ∷ fromK5 h p
 
 -- T and S of producer p in a month, after the cut: k1 and k4 are of these. [Cut; Requests, 8]
-unfoldable pub cutSupport : Month → ℕ → ℕ
-cutSupport m p = supportVolume m (afterCut m) p
+unfoldable pub supportAfter : Month → ℕ → ℕ
+supportAfter m p = supportVolume m (afterCut m) p
 
-unfoldable pub cutCapacity : Month → ℕ → ℕ
-cutCapacity m p = summedCapacity m (afterCut m) p
+unfoldable pub capacityAfter : Month → ℕ → ℕ
+capacityAfter m p = summedCapacity m (afterCut m) p
 
 -- The coefficients of producer p in a month. [Cut, Coefficients; Requests, 8]
 unfoldable pub coefficients : Month → ℕ → List ℕ
-coefficients m p = inOrder (m .header) (m .producer p) (cutSupport m p) (cutCapacity m p)
+coefficients m p = inOrder (m .header) (m .producer p) (supportAfter m p) (capacityAfter m p)

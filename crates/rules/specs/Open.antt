@@ -5,7 +5,7 @@ use Rattle.rules.specs.ControlHours.{weekdayOn, controlWeekday, holidayO
 use Rattle.rules.specs.ControlTable.{controlWeekdays, lineOf, says, tableDay, inTable}
 use Rattle.rules.specs.Bands.{bands, factorOf, bandOf, overNothing, partsOf, thousandths}
 use Rattle.rules.specs.Cut.{owns, support, bilateral, ownVolume, ownSupport, ownBilateral, supportVolume, bilateralVolume, summedCapacity, excess, leftToCut, afterCut, rowCount, single}
-use Rattle.rules.specs.Coefficients.{share, millionthsOf, overuse, penalty, lessPenalty, exactK1, k1, k2, asked, met, metOver, exactK4, k4, k5, fromK5, inOrder, others, cutSupport, cutCapacity, coefficients}
+use Rattle.rules.specs.Coefficients.{share, millionthsOf, overuse, penalty, lessPenalty, exactK1, k1, k2, asked, met, metOver, exactK4, k4, k5, fromK5, inOrder, others, supportAfter, capacityAfter, coefficients}
 use Rattle.rules.specs.Rows.{asOneFraction, begun, factors, running, daysCovered, forDays, through, actual, payment}
 use Rattle.rules.specs.Consumers.{credited, credit, countedPeak, overContract, percentOf, bracket, mining, volumeOf, percent, band, volume, charge}
 use Rattle.rules.specs.Totals.{totalPaid, totalCharged}
@@ -25,7 +25,7 @@ use Rattle.rules.specs.Samples.{month, wrong}
 
 -- From a month to its totals.
 unfoldable pub settlement : Unit {0}
-unfolding sum any when rounded inHundredths inThousandths inMillionths toTenths money weekdayOn controlWeekday holidayOn controlDay controlHour counted controlSum controlCount average controlAverage bands factorOf bandOf overNothing partsOf thousandths owns support bilateral ownVolume ownSupport ownBilateral supportVolume bilateralVolume summedCapacity excess leftToCut afterCut rowCount single share millionthsOf overuse penalty lessPenalty exactK1 k1 k2 asked met metOver exactK4 k4 k5 fromK5 inOrder others cutSupport cutCapacity coefficients asOneFraction begun factors running daysCovered forDays through actual payment credited credit countedPeak overContract percentOf bracket mining volumeOf percent band volume charge totalPaid totalCharged month wrong
+unfolding sum any when rounded inHundredths inThousandths inMillionths toTenths money weekdayOn controlWeekday holidayOn controlDay controlHour counted controlSum controlCount average controlAverage bands factorOf bandOf overNothing partsOf thousandths owns support bilateral ownVolume ownSupport ownBilateral supportVolume bilateralVolume summedCapacity excess leftToCut afterCut rowCount single share millionthsOf overuse penalty lessPenalty exactK1 k1 k2 asked met metOver exactK4 k4 k5 fromK5 inOrder others supportAfter capacityAfter coefficients asOneFraction begun factors running daysCovered forDays through actual payment credited credit countedPeak overContract percentOf bracket mining volumeOf percent band volume charge totalPaid totalCharged month wrong
 settlement = tt
 
 -- From a sheet's bytes to its month, its refusal, and the result's bytes.

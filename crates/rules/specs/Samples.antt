@@ -74,13 +74,13 @@ firstHours n v rest i = cond (ltb i n) v (rest i)
 
 -- The coefficients of a month's first producer.
 abbrev pub k1 : Month → ℕ
-k1 m = Coefficients.k1 (m .header) (m .producer 0) (Coefficients.cutSupport m 0)
+k1 m = Coefficients.k1 (m .header) (m .producer 0) (Coefficients.supportAfter m 0)
 
 abbrev pub k2 : Month → ℕ
 k2 m = Coefficients.k2 (m .header) (m .producer 0)
 
 abbrev pub k4 : Month → ℕ
-k4 m = Coefficients.k4 (m .header) (m .producer 0) (Coefficients.cutCapacity m 0)
+k4 m = Coefficients.k4 (m .header) (m .producer 0) (Coefficients.capacityAfter m 0)
 
 abbrev pub k5 : Month → ℕ
 k5 m = Coefficients.k5 (m .header) (m .producer 0)

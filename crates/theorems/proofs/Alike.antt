@@ -19,7 +19,7 @@ use Rattle.rules.specs.Fields.{laid, joined}
 use Rattle.rules.specs.Sheet.{statedWidth, producerWidth, producerAt, hoursAt, hourSeries, power, producerUnder}
 use Rattle.rules.specs.Result.{RowFigures, ConsumerFigures, TotalFigures, rowFigures, consumerFigures, totalFigures, rowFields, consumerFields, totalFields, headFields, rowRecord, consumerRecord, resultOf}
 use Rattle.laws.proofs.Sheet.{Spans, series-span, span-ends, SameFields, stated-same}
-use Rattle.theorems.specs.Demand3.{WorseProducer, Worse, SameAttested}
+use Rattle.theorems.specs.Demand3.{WorseProducer, Worse, MoreRowsKeepAttested}
 use Rattle.theorems.specs.Alike.{SameProducer, Alike}
 use Rattle.theorems.proofs.Rows as Rows
 use Rattle.theorems.proofs.Months as Months
@@ -149,7 +149,7 @@ alike-worse m m′ a =
           (record { contract = refl; peak = le-of-eq refl; supplier = le-of-eq refl; grid = le-of-eq refl; z = le-of-eq refl; price = refl });
     }
 
-alike-attested : (m m′ : Month) → Alike m m′ → SameAttested m m′
+alike-attested : (m m′ : Month) → Alike m m′ → MoreRowsKeepAttested m m′
 alike-attested m m′ a p l more = a .producer p l .attested
 
 alike-back : (m m′ : Month) → Alike m m′ → Alike m′ m
@@ -181,10 +181,10 @@ module _ (m m′ : Month) (a : Alike m m′) (w : MonthLimits m) where
   up : Worse m′ m
   up = alike-worse m′ m (alike-back m m′ a)
 
-  kept : SameAttested m m′
+  kept : MoreRowsKeepAttested m m′
   kept = alike-attested m m′ a
 
-  kept′ : SameAttested m′ m
+  kept′ : MoreRowsKeepAttested m′ m
   kept′ = alike-attested m′ m (alike-back m m′ a)
 
   there : {n n′ : ℕ} → n′ ≡ n → {j : ℕ} → j < n → j < n′

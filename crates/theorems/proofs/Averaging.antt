@@ -18,7 +18,7 @@ use Rattle.rules.specs.Units.{tenth, tenthsCeiling}
 use Rattle.rules.specs.Limits.{ConsumerLimits, FormLimits, MonthLimits}
 use Rattle.rules.specs.ControlHours.{controlHour, counted, controlSum, controlCount, controlAverage}
 use Rattle.rules.specs.Cut.{owns, support, bilateral, ownVolume, ownSupport, ownBilateral, supportVolume, bilateralVolume, summedCapacity, excess, leftToCut, afterCut, rowCount, single}
-use Rattle.rules.specs.Coefficients.{cutSupport, cutCapacity, coefficients}
+use Rattle.rules.specs.Coefficients.{supportAfter, capacityAfter, coefficients}
 use Rattle.rules.specs.Rows.{begun, factors, actual, payment}
 use Rattle.rules.specs.Consumers.{credited, credit, countedPeak, percent, band, volume, charge}
 use Rattle.rules.specs.Totals.{totalPaid}
@@ -46,15 +46,15 @@ use Rattle.theorems.proofs.OtherConsumers as Other
 -- No row knows a consumer's figures, and no consumer those of another.
 module _ (m : Month) (k : ℕ → Consumer) where
   rows-kept : (j : ℕ) → rowFigures (withConsumers m k) j ≡ rowFigures m j
-  unfolding afterCut leftToCut excess summedCapacity supportVolume bilateralVolume ownSupport ownBilateral ownVolume owns support bilateral rowCount single cutSupport cutCapacity coefficients begun factors actual payment
+  unfolding afterCut leftToCut excess summedCapacity supportVolume bilateralVolume ownSupport ownBilateral ownVolume owns support bilateral rowCount single supportAfter capacityAfter coefficients begun factors actual payment
   rows-kept j = refl
 
   consumers-kept : (c : ℕ) → k c ≡ m .consumer c → consumerFigures (withConsumers m k) c ≡ consumerFigures m c
-  unfolding charge volume band percent countedPeak credit credited afterCut leftToCut excess summedCapacity supportVolume bilateralVolume ownSupport ownBilateral ownVolume owns support bilateral rowCount single cutSupport cutCapacity coefficients begun factors actual payment
+  unfolding charge volume band percent countedPeak credit credited afterCut leftToCut excess summedCapacity supportVolume bilateralVolume ownSupport ownBilateral ownVolume owns support bilateral rowCount single supportAfter capacityAfter coefficients begun factors actual payment
   consumers-kept c e = rw e
 
   paid-kept : totalPaid (withConsumers m k) ≡ totalPaid m
-  unfolding totalPaid afterCut leftToCut excess summedCapacity supportVolume bilateralVolume ownSupport ownBilateral ownVolume owns support bilateral rowCount single cutSupport cutCapacity coefficients begun factors actual payment
+  unfolding totalPaid afterCut leftToCut excess summedCapacity supportVolume bilateralVolume ownSupport ownBilateral ownVolume owns support bilateral rowCount single supportAfter capacityAfter coefficients begun factors actual payment
   paid-kept = refl
 
 -- The control average of figures up to a ceiling is not above it, whatever it is rounded to.

@@ -19,7 +19,7 @@ use Rattle.laws.proofs.Refusals.{limits}
 use Rattle.laws.proofs.Answers.{is-changed}
 use Rattle.laws.proofs.Cut.{cut-le-volume}
 use Rattle.laws.proofs.Rows.{actual-le-cut}
-use Rattle.theorems.specs.Demand3.{Worse, SameAttested, WorseSheet, NoBetter, OnlyCut}
+use Rattle.theorems.specs.Demand3.{Worse, MoreRowsKeepAttested, WorseSheet, NoBetter, OnlyCut}
 use Rattle.theorems.proofs.ReadBack.{row-read, consumer-read, totals-read}
 use Rattle.theorems.proofs.Months as Months
 
@@ -54,7 +54,7 @@ only-cut s out a =
     }
 
 -- Two months with one header, the second worse, and two buffers that begin with their results.
-module _ (m m′ : Month) (e : m′ .header ≡ m .header) (w : MonthLimits m) (w′ : MonthLimits m′) (worse : Worse m m′) (keeps : SameAttested m m′)
+module _ (m m′ : Month) (e : m′ .header ≡ m .header) (w : MonthLimits m) (w′ : MonthLimits m′) (worse : Worse m m′) (keeps : MoreRowsKeepAttested m m′)
     (out out′ : List ℕ) (b : Holds out 0 (resultOf m)) (b′ : Holds out′ 0 (resultOf m′)) where
   row′ : (j : ℕ) → j < m .header .rows → readRow out′ j ≡ rowFigures m′ j
   row′ j l = row-read m′ w′ out′ b′ j (rw (ap (λ (h : Header). h .rows) e) l)
@@ -80,7 +80,7 @@ module _ (m m′ : Month) (e : m′ .header ≡ m .header) (w : MonthLimits m) (
 
 -- Demand 3.
 pub no-better : (s s′ out out′ : List ℕ) → Accepted s (length out) → Accepted s′ (length out′) → WorseSheet s s′
-    → SameAttested (monthOf s) (monthOf s′) → NoBetter (headerOf s) (bufferAfter s out) (bufferAfter s′ out′)
+    → MoreRowsKeepAttested (monthOf s) (monthOf s′) → NoBetter (headerOf s) (bufferAfter s out) (bufferAfter s′ out′)
 no-better s s′ out out′ a a′ w keeps =
     months-no-better (monthOf s) (monthOf s′) (same-header s s′ (w .header))
     (limits s (length out) a .month) (limits s′ (length out′) a′ .month) (w .figures) keeps

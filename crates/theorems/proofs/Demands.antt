@@ -18,7 +18,7 @@ use Rattle.laws.proofs.Refusals as Refusals
 use Rattle.laws.proofs.Answers as Answers
 use Rattle.laws.proofs.Cut as Cut
 use Rattle.theorems.specs.Demand1.{First}
-use Rattle.theorems.specs.Demand3.{SameAttested, OneRowEach, EqualAttested, WorseSheet, NoBetter, OnlyCut}
+use Rattle.theorems.specs.Demand3.{MoreRowsKeepAttested, AtMostOneRow, AllKeepAttested, WorseSheet, NoBetter, OnlyCut}
 use Rattle.theorems.specs.TwoRows.{TwoRowFigures, NeverRises}
 use Rattle.theorems.proofs.ReadBack as ReadBack
 use Rattle.theorems.proofs.Demand1 as Demand1
@@ -95,14 +95,14 @@ stretch-inside s p e l = (Refusals.stretch-there s p e l, Refusals.stretch-ends 
 -- Of two accepted sheets with the same header in the relation of demand 3, where a producer with more than one row keeps its attested
 -- capacity and any other may have less, the second result is no better.
 module _ (s s′ out out′ : List ℕ) (a : Accepted s (length out)) (a′ : Accepted s′ (length out′)) (w : WorseSheet s s′) where
-  pub no-better : SameAttested (monthOf s) (monthOf s′) → NoBetter (headerOf s) (bufferAfter s out) (bufferAfter s′ out′)
+  pub no-better : MoreRowsKeepAttested (monthOf s) (monthOf s′) → NoBetter (headerOf s) (bufferAfter s out) (bufferAfter s′ out′)
   no-better = Demand3.no-better s s′ out out′ a a′ w
 
   -- So it is where each producer has at most one row, and where all keep their attested capacity. [Requests, 8]
-  pub no-better-one-row : OneRowEach (monthOf s) → NoBetter (headerOf s) (bufferAfter s out) (bufferAfter s′ out′)
+  pub no-better-one-row : AtMostOneRow (monthOf s) → NoBetter (headerOf s) (bufferAfter s out) (bufferAfter s′ out′)
   no-better-one-row one = no-better (λ p l more. absurd (omega (arith, one p l, more)))
 
-  pub no-better-equal-attested : EqualAttested (monthOf s) (monthOf s′) → NoBetter (headerOf s) (bufferAfter s out) (bufferAfter s′ out′)
+  pub no-better-equal-attested : AllKeepAttested (monthOf s) (monthOf s′) → NoBetter (headerOf s) (bufferAfter s out) (bufferAfter s′ out′)
   no-better-equal-attested same = no-better (λ p l more. same p l)
 
 -- Why a producer with more than one row must keep its attested capacity, so that nobody tries to prove more: of one with two support rows of

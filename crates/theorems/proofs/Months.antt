@@ -10,14 +10,14 @@ use Rattle.rules.specs.Rows.{actual, payment}
 use Rattle.rules.specs.Consumers.{credited, credit, volume, charge}
 use Rattle.rules.specs.Totals.{totalPaid, totalCharged}
 use Rattle.laws.proofs.Range.{sum-mono, when-mono}
-use Rattle.theorems.specs.Demand3.{Worse, SameAttested}
+use Rattle.theorems.specs.Demand3.{Worse, MoreRowsKeepAttested}
 use Rattle.theorems.proofs.Rows as Rows
 use Rattle.theorems.proofs.Consumers as Consumers
 
 pub own-rows : {m m′ : Month} → Worse m m′ → (p : ℕ) → Rows.SameRowsOf m m′ p
 own-rows w p = record { owner = λ j l. ap (λ (r : Row). r .producer) (w .row j l); own = λ j l q. w .row j l }
 
-module _ (m m′ : Month) (e : m′ .header ≡ m .header) (limits : MonthLimits m) (w : Worse m m′) (keeps : SameAttested m m′) where
+module _ (m m′ : Month) (e : m′ .header ≡ m .header) (limits : MonthLimits m) (w : Worse m m′) (keeps : MoreRowsKeepAttested m m′) where
   pub actual-down : (j : ℕ) → j < m .header .rows → actual m′ j ≤ actual m j
   actual-down j l = let b = limits .row j l .producer in Rows.actual-down m m′ e j l (w .producer _ b) (own-rows w _) (keeps _ b)
 

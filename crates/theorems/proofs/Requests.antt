@@ -34,7 +34,7 @@ use Rattle.laws.proofs.ControlTable.{line-length, entry-right, no-weekday, no-d
 use Rattle.laws.proofs.Refusals.{form-limits, form-clear, limits}
 use Rattle.laws.proofs.Answers as Answers
 use Rattle.theorems.specs.Demand1.{First}
-use Rattle.theorems.specs.Demand3.{SameAttested, WorseSheet, NoBetter}
+use Rattle.theorems.specs.Demand3.{MoreRowsKeepAttested, WorseSheet, NoBetter}
 use Rattle.theorems.specs.Request1.{contractSum, OnlyContracts}
 use Rattle.theorems.proofs.Demand1 as Demand1
 use Rattle.theorems.specs.Request3.{OnlyPeak, HigherDrawn, OnlyLine, NoLower}
@@ -95,7 +95,7 @@ transfer-same-answer s s′ list room room′ a a′ w = Transfers.same-answer s
 
 -- and demand 3 holds of the results of the two sheets afterwards, where a producer with more than one row keeps its attested capacity.
 pub transfer-no-better : (s s′ list out out′ : List ℕ) → Accepted s (length out) → Accepted s′ (length out′) → WorseSheet s s′
-    → SameAttested (monthOf s) (monthOf s′) → NoBetter (headerOf s) (bufferAfter (transferred s list) out) (bufferAfter (transferred s′ list) out′)
+    → MoreRowsKeepAttested (monthOf s) (monthOf s′) → NoBetter (headerOf s) (bufferAfter (transferred s list) out) (bufferAfter (transferred s′ list) out′)
 transfer-no-better = Transfers.no-better
 
 -- Request 2: control days from a table ----------------------------------------------------------------------------------------------

@@ -14,7 +14,7 @@ use Rattle.rules.specs.declared.Ratio.{Ratio}
 use Rattle.rules.specs.declared.Row.{Row}
 use Rattle.rules.specs.Month.{Month, hours}
 use Rattle.rules.specs.Cut.{owns, support, bilateral, sold, ownVolume, ownSupport, ownBilateral, supportVolume, bilateralVolume, summedCapacity, excess, afterCut, rowCount, single}
-use Rattle.rules.specs.Coefficients.{cutSupport, cutCapacity, coefficients}
+use Rattle.rules.specs.Coefficients.{supportAfter, capacityAfter, coefficients}
 use Rattle.rules.specs.Rows.{begun, factors, running, daysCovered, forDays, through, actual, payment}
 use Rattle.laws.proofs.Range.{sum-same}
 use Rattle.laws.proofs.Cut.{own-after, own-counted}
@@ -116,7 +116,7 @@ module _ (m m′ : Month) (e : m′ .header ≡ m .header) (p : ℕ) (r : SameRo
         omega (arith, cut-is j l own, own-after m p j own, same)
 
     coefficients-down : NoMore (coefficients m′ p) (coefficients m p)
-    unfolding coefficients cutSupport cutCapacity
+    unfolding coefficients supportAfter capacityAfter
     coefficients-down =
         in-order-down e (same-support m m′ e p r _ _ same-cut) (same-summed m m′ e p r _ _ same-cut (w .deductible)) w
 

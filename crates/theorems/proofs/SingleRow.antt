@@ -12,7 +12,7 @@ use Rattle.rules.specs.declared.Header.{Header}
 use Rattle.rules.specs.declared.Row.{Row}
 use Rattle.rules.specs.Month.{Producer, Month, hours}
 use Rattle.rules.specs.Cut.{support, afterCut, single}
-use Rattle.rules.specs.Coefficients.{penalty, exactK1, asked, metOver, exactK4, cutSupport, cutCapacity}
+use Rattle.rules.specs.Coefficients.{penalty, exactK1, asked, metOver, exactK4, supportAfter, capacityAfter}
 use Rattle.rules.specs.Rows.{begun}
 use Rattle.laws.specs.ShortForm.{kept, inShort}
 use Rattle.laws.proofs.Range.{sum-mono, sum-times}
@@ -94,7 +94,7 @@ single-begun : (m : Month) (p : ℕ) → single m p ≡ true → (j : ℕ) → j
     → begun m p (afterCut m j)
     ≡ inShort (kept (support m j) (afterCut m j) (penalty (m .header) (m .producer p)))
     (exactK4 (m .header) (m .producer p) (afterCut m j + m .producer p .deductible))
-unfolding begun exactK1 cutSupport cutCapacity
+unfolding begun exactK1 supportAfter capacityAfter
 single-begun m p one j l own =
     rw (one, single-support m p one j l own (afterCut m), single-summed m p one j l own (afterCut m))
     (in-short (support m j) (afterCut m j) (penalty (m .header) (m .producer p)) _ (k4-part (m .header) (m .producer p) _ .1))

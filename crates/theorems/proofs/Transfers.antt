@@ -28,7 +28,7 @@ use Rattle.laws.proofs.Refusals.{first-append, first-next, sheet-numbered, shee
 use Rattle.laws.proofs.Written.{Outside, Room, length-contracts, contracts-keep, contract-read}
 use Rattle.laws.proofs.Answers as Answers
 use Rattle.laws.proofs.Transfers.{AllNamed, list-numbered, names-clear, applied-limits, after-same, turns-same, sum-after, after-within}
-use Rattle.theorems.specs.Demand3.{Worse, SameAttested, WorseSheet, NoBetter}
+use Rattle.theorems.specs.Demand3.{Worse, MoreRowsKeepAttested, WorseSheet, NoBetter}
 use Rattle.theorems.specs.Request1.{contractSum, OnlyContracts}
 use Rattle.theorems.proofs.Demand3.{same-header, over-begins, months-no-better}
 use Rattle.theorems.proofs.Demand3 as Demand3
@@ -240,7 +240,7 @@ module _ (s s′ t : List ℕ) (w : WorseSheet s s′) where
       }
 
 pub no-better : (s s′ t out out′ : List ℕ) → Accepted s (length out) → Accepted s′ (length out′) → WorseSheet s s′
-    → SameAttested (monthOf s) (monthOf s′) → NoBetter (headerOf s) (bufferAfter (transferred s t) out) (bufferAfter (transferred s′ t) out′)
+    → MoreRowsKeepAttested (monthOf s) (monthOf s′) → NoBetter (headerOf s) (bufferAfter (transferred s t) out) (bufferAfter (transferred s′ t) out′)
 no-better s s′ t out out′ a a′ w keeps = go (eqb (transferRefusal s t) 0) refl
   where
     same : transferRefusal s′ t ≡ transferRefusal s t

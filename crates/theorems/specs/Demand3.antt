@@ -45,16 +45,16 @@ pub record Worse (m m′ : Month) : Type 0 where
   pub consumer : (c : ℕ) → c < m .header .consumers → WorseConsumer (m .consumer c) (m′ .consumer c)
 
 -- A producer with more than one row keeps its attested capacity; any other may have less. [Requests, 8]
-abbrev pub SameAttested : Month → Month → Type 0
-SameAttested m m′ = (p : ℕ) → p < m .header .producers → 1 < rowCount m p → m′ .producer p .attested ≡ m .producer p .attested
+abbrev pub MoreRowsKeepAttested : Month → Month → Type 0
+MoreRowsKeepAttested m m′ = (p : ℕ) → p < m .header .producers → 1 < rowCount m p → m′ .producer p .attested ≡ m .producer p .attested
 
 -- Each producer has at most one row. [Requests, 8]
-abbrev pub OneRowEach : Month → Type 0
-OneRowEach m = (p : ℕ) → p < m .header .producers → rowCount m p ≤ 1
+abbrev pub AtMostOneRow : Month → Type 0
+AtMostOneRow m = (p : ℕ) → p < m .header .producers → rowCount m p ≤ 1
 
 -- Every producer keeps its attested capacity. [Requests, 8]
-abbrev pub EqualAttested : Month → Month → Type 0
-EqualAttested m m′ = (p : ℕ) → p < m .header .producers → m′ .producer p .attested ≡ m .producer p .attested
+abbrev pub AllKeepAttested : Month → Month → Type 0
+AllKeepAttested m m′ = (p : ℕ) → p < m .header .producers → m′ .producer p .attested ≡ m .producer p .attested
 
 -- Two sheets with the same header, the second of a month that is the same or worse.
 pub record WorseSheet (s s′ : List ℕ) : Type 0 where

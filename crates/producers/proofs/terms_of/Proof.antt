@@ -10,8 +10,8 @@ use Rattle.rules.specs.Units.{one}
 use Rattle.rules.specs.Month.{Month}
 use Rattle.rules.specs.Sheet.{hoursWidth, hoursAt, producerAt, statedOf, monthUnder}
 use Rattle.rules.specs.Cut.{excess}
-use Rattle.rules.specs.Coefficients.{penalty, exactK4, cutCapacity}
-use Rattle.laws.proofs.Cut.{left}
+use Rattle.rules.specs.Coefficients.{penalty, exactK4, capacityAfter}
+use Rattle.laws.specs.ShortForm.{leftAfterCut}
 use Rattle.units.specs.Sums.{millionths}
 use Rattle.sheet.specs.Whole.{statedIn}
 use Rattle.sheet.proofs.Whole.{stated-whole}
@@ -41,15 +41,15 @@ over h =
     excess-is _ _ _ (beginning h .pre .1 .0 .0) (stated h)
     (rw (sym (h .before .before .before .before .before .sold-of .ensures .0), sym (h .before .before .before .before .summed-of .ensures)) (h .before .before .before .excess-of .ensures))
 
-remains : (h : tie.After-hours-of) → h .before .before .less .result .0 ≡ left (month h) (beginning h .args .p)
+remains : (h : tie.After-hours-of) → h .before .before .less .result .0 ≡ leftAfterCut (month h) (beginning h .args .p)
 remains h =
     left-is _ _ _ (beginning h .pre .1 .0 .0) (stated h) (over h) (rw (sym (h .before .before .before .before .before .sold-of .ensures .0)) (h .before .before .less .ensures))
 
-capacity : (h : tie.After-hours-of) → h .before .summed-of2 .result .0 ≡ cutCapacity (month h) (beginning h .args .p)
+capacity : (h : tie.After-hours-of) → h .before .summed-of2 .result .0 ≡ capacityAfter (month h) (beginning h .args .p)
 capacity h = h .before .summed-of2 .ensures ∙ capacity-is _ _ _ (beginning h .pre .1 .0 .0) (stated h) (remains h)
 
 known : (h : tie.After-hours-of) → h .hours-of .result .high ≡ false
-    → HoursKnown (beginning h .args .layout) (beginning h .args .s .now) (beginning h .args .p) (cutCapacity (month h) (beginning h .args .p)) (h .hours-of .result)
+    → HoursKnown (beginning h .args .layout) (beginning h .args .s .now) (beginning h .args .p) (capacityAfter (month h) (beginning h .args .p)) (h .hours-of .result)
 known h low = rw (capacity h) at (h .hours-of .ensures .1 low)
 
 producer-requires : tie.Need-producer-requires
@@ -92,7 +92,7 @@ hours e = e .before .before .before
 low : (e : tie.After-exact-k4) → hours e .hours-of .result .high ≡ false
 low e = e .before .before .if1 .left
 
-fourth : (e : tie.After-exact-k4) → (let h = hours e in e .exact-k4 .result ≡ exactK4 (beginning h .args .layout .header) (month h .producer (beginning h .args .p)) (cutCapacity (month h) (beginning h .args .p)))
+fourth : (e : tie.After-exact-k4) → (let h = hours e in e .exact-k4 .result ≡ exactK4 (beginning h .args .layout .header) (month h .producer (beginning h .args .p)) (capacityAfter (month h) (beginning h .args .p)))
 fourth e = e .exact-k4 .ensures ∙ known (hours e) (low e) .k4
 
 penalised : (e : tie.After-exact-k4) → (let h = hours e in e .before .penalty-of .result .0 ≡ penalty (beginning h .args .layout .header) (month h .producer (beginning h .args .p)))

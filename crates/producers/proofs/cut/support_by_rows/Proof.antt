@@ -4,12 +4,12 @@ use Prim.Native.Nat.{_-_, _≤_, zero-le}
 use native.Mathlib.Omega.{arith}
 use Rattle.rules.specs.Sheet.{monthUnder}
 use Rattle.rules.specs.Cut.{supportVolume}
-use Rattle.rules.specs.Coefficients.{cutSupport}
+use Rattle.rules.specs.Coefficients.{supportAfter}
 use Rattle.sheet.proofs.Whole.{row-there}
 use Rattle.producers.proofs.After.{CutSoFar, cut-none, cut-own, cut-other}
 use borrow.Author.Needs.{needs}
-use Rattle.producers.proofs.cut.cut_support.Statement.{statement}
-use Rattle.producers.proofs.cut.cut_support.Tie as tie
+use Rattle.producers.proofs.cut.support_by_rows.Statement.{statement}
+use Rattle.producers.proofs.cut.support_by_rows.Tie as tie
 
 abbrev Inv-loop : tie.InvT-loop
 Inv-loop s layout p c₀ j₀ c j = CutSoFar (monthUnder layout s) p j c × (j ≤ layout .header .rows)
@@ -45,14 +45,14 @@ loop-again c =
     )
 
 returns : tie.Need-returns Inv-loop μ-loop
-unfolding cutSupport supportVolume
+unfolding supportAfter supportVolume
 returns c =
     let l = c .before .before .before .loop in
     let end : l .j ≡ c .before .before .before .before .before .args .layout .header .rows = omega arith in
     rw end at (l .inv .0 .support)
 
-pub cut-support-spec : {M : Type 1} → statement M
-cut-support-spec =
+pub support-by-rows-spec : {M : Type 1} → statement M
+support-by-rows-spec =
     tie.close
     (tie.spec
     Inv-loop
