@@ -152,8 +152,9 @@ def largest_payments(rng):
 
 
 def largest_penalty(rng):
-    """Outside use at the ceiling over a deductible of 0 or 0.1 MW: the largest D, p and n × D. k1 is 0, since the cut
-    leaves no larger T; below the ceiling it is above 0 from three rows on."""
+    """Outside use at the ceiling, or up to 99.9 MW below it, over a deductible of 0 or 0.1 MW: D, p and n × D at or
+    near their largest. The cut leaves T 20,000.0 at most. With one row k1 is 0; with more it is 0, or little above it,
+    below 0.01. In a month without control hours D is 0, and k1 is 1."""
     sheet = largest_payments(rng)
     sheet.producers[0].deductible = rng.choice((0, 1))
     sheet.producers[0].outside = flat(sheet.month, TOP_CAPACITY - rng.choice((0, rng.randrange(1, 1000))))

@@ -22,8 +22,8 @@ class Seller(NamedTuple):
     sales: list    # buyer and volume of each row, in the order of the rows
 
     @property
-    def owed(self):
-        """S by the volumes of the sheet."""
+    def summed(self):
+        """S before the cut."""
         return sum(volume for _, volume in self.sales) + self.producer.deductible
 
 
@@ -50,7 +50,7 @@ def alone(draw_seller):
 
 def cut_by(rng, seller, cut):
     """So much is to be cut, by attested capacity and own needs."""
-    left = seller.owed - cut
+    left = seller.summed - cut
     least = max(0, left - TOP_CAPACITY)
     own_needs = rng.choice((least, rng.randrange(least, min(left, TOP_CAPACITY) + 1)))
     seller.producer.own_needs, seller.producer.attested = own_needs, left - own_needs
@@ -114,8 +114,8 @@ def selling(kinds, form):
         if rng.random() < 0.3:  # no n × D
             producer.outside = flat(month, 0)
         seller = Seller(producer, sales)
-        cut = CUT_OF[form](rng, seller.owed - producer.deductible)
-        put_powers(rng, month, producer, seller.owed - cut, seller.owed)
+        cut = CUT_OF[form](rng, seller.summed - producer.deductible)
+        put_powers(rng, month, producer, seller.summed - cut, seller.summed)
         return cut_by(rng, seller, cut)
     return draw
 
@@ -135,7 +135,7 @@ def nothing_left(kinds):
         seller = selling(kinds, "all")(rng, month)
         producer = seller.producer
         producer.deductible = producer.attested = producer.own_needs = 0
-        producer.possible = spread(rng, month, 1, capacity(seller.owed))
+        producer.possible = spread(rng, month, 1, capacity(seller.summed))
         return seller
     return draw
 
@@ -168,8 +168,8 @@ def penalty_against(form, before_above=False):
         least = use.penalty // THOUSANDTHS + 1 if before_above else left
         put_use(rng, month, producer, use)
         seller = Seller(producer, [(SINGLE_BUYER, more_than(rng, least))])
-        put_powers(rng, month, producer, left + use.deductible, seller.owed)
-        return cut_by(rng, seller, seller.owed - use.deductible - left)
+        put_powers(rng, month, producer, left + use.deductible, seller.summed)
+        return cut_by(rng, seller, seller.summed - use.deductible - left)
     return draw
 
 
@@ -178,8 +178,8 @@ PENALTIES.update((f"penalty_{form}_what_is_left_alone", penalty_against(form, Tr
 
 # ------------------------------------------------------------------ the one fraction next to half a tenth
 
-# How far the one fraction lies below half a tenth, told in parts of which a tenth has so many: a wrong rounding to the
-# millionth shows in the tenth.
+# How many parts the one fraction lies below half a tenth, if so many parts make a tenth: a wrong rounding to the
+# millionth shows in the tenth. The class Single says what a part is.
 BELOW_HALF_A_TENTH = {
     "rounded_up": lambda parts: range(1, -(-parts // (2 * TENTH))),
     "on_a_half": lambda parts: [] if parts % (2 * TENTH) else [parts // (2 * TENTH)],
@@ -194,7 +194,13 @@ def below_a_tenth(parts):
 
 
 class Single(NamedTuple):
-    """A row's volume after the cut, outside use, and m, alike in every hour; asked is the sum of m."""
+    """A row's volume after the cut, outside use, and m, alike in every hour; asked is the sum of m.
+
+    If worked is the sum of the smaller of m and working power, the one fraction is (volume - n × D) × worked / asked,
+    in tenths. It is counted in parts, so small that it is a whole number of them: units × worked. An example without
+    n × D, with volume 3 and asked 10: 10 parts make a tenth, and the fraction is 3 × worked parts. With worked 8 that
+    is 24, which is 2 tenths and 4 parts, and so 1 part below 2 and a half tenths.
+    """
     volume: int
     use: Use
     m: int
@@ -202,20 +208,26 @@ class Single(NamedTuple):
 
     @property
     def in_tenth(self):
-        """What n × D leaves of the volume is told in tenths, or in thousandths."""
+        """How many units make a tenth: with n × D a unit is a thousandth of a megawatt, without it a tenth."""
         return THOUSANDTHS if self.use.penalty else 1
 
     @property
     def units(self):
+        """What n × D leaves of the volume."""
         return self.in_tenth * self.volume - self.use.penalty
 
     def parts(self):
-        """As many as a tenth has where the one fraction is told by units and the sum of m."""
+        """How many parts make a tenth: one part is a unit divided by asked. In the example 10, with n × D 1,000."""
         return self.in_tenth * self.asked
 
     def worked(self, tenths, below):
-        """The sum that is worked if the fraction lies this far below a half of so many tenths, past some such number
-        of tenths; or None."""
+        """A worked sum with which the fraction is so many parts below a half tenth, where tenths is 1, or below an odd
+        number of whole tenths, where it is 2. None if it is above asked; nor is it sought where units and whole have a
+        common divisor.
+
+        In the example, 1 part below a half tenth: 3 × worked is to leave 4 when it is divided by 10. 7 turns 3 into 1
+        there (21), so worked is 4 × 7 = 28, which leaves 8.
+        """
         whole = tenths * self.parts()
         if gcd(self.units, whole) > 1:
             return None
@@ -253,7 +265,7 @@ def used_row(rng, month, step):
     return Single(volume, use, m, month.hours * m)
 
 
-# A row that is drawn, its buyer, and in how many units it is told.
+# A row that is drawn, its buyer, and how many of its units make a tenth.
 ROWS = {"support": (free_row, SINGLE_BUYER, 1), "bilateral": (free_row, 0, 1),
         "support_with_use": (used_row, SINGLE_BUYER, THOUSANDTHS)}
 
@@ -301,7 +313,7 @@ def behind_one_cut_whole(rng, buyer, volume):
 
 
 def beside_another(rng, buyer, volume):
-    """Which leaves T alone."""
+    """Which leaves T alone, and raises S."""
     return shuffled(rng, [(buyer, volume), (0, rng.randrange(1, 1000))]), 0
 
 
@@ -322,7 +334,8 @@ def next_to_half(kind, worked_of, rows_of=by_itself):
         row, worked = draw_near(rng, month, kind, worked_of, rows_of is not by_itself)
         producer = full_producer(month)
         put_use(rng, month, producer, row.use)
-        of_s = row.m == row.volume + row.use.deductible
+        # Beside another row S is higher than this: there possible power has to be m in every hour.
+        of_s = row.m == row.volume + row.use.deductible and rows_of is not beside_another
         producer.possible = spread(rng, month, row.m, TOP_CAPACITY) if of_s else flat(month, row.m)
         producer.working = with_sum_of(month, worked)
         _, buyer, _ = ROWS[kind]

@@ -52,10 +52,20 @@ def attested_of(sheet):
     return [sheet[place:place + 4] for place in records_of(sheet, "producer")]
 
 
-def has_more_rows(sheet):
-    """Some producer, the first byte of a row, has more rows than one."""
-    owners = [sheet[place] for place in records_of(sheet, "row")]
-    return len(set(owners)) < len(owners)
+def with_more_rows(sheet):
+    """The numbers of the producers, the first byte of a row, that have more rows than one."""
+    rows = Counter(sheet[place] for place in records_of(sheet, "row"))
+    return [number for number, count in rows.items() if count > 1]
+
+
+def against_drawing(first, second):
+    """What goes against the rule for drawing a pair, or nothing: of a producer with more rows than one, the same is
+    attested in both sheets."""
+    attested, others = attested_of(first), attested_of(second)
+    for number in with_more_rows(first):
+        if others[number] != attested[number]:
+            return f"producer {number} has more rows than one, and another capacity is attested in the second sheet"
+    return ""
 
 
 def some_row_cut_further(sheet, first, second):
@@ -65,13 +75,12 @@ def some_row_cut_further(sheet, first, second):
 
 
 def kinds_of_pair(first, second, results):
-    """What a pair is counted as, by what is attested in its sheets: with more rows than one of a producer that is the
-    same, as the drawing has it."""
+    """What a pair is counted as, by what is attested in its sheets and by its rows."""
     if attested_of(first) != attested_of(second):
         yield "attested"
         if some_row_cut_further(first, *results):
             yield "cut further"
-    if has_more_rows(first):
+    if with_more_rows(first):
         yield "more rows"
 
 
@@ -83,11 +92,13 @@ def check_pairs(run, start, cases, answers, rule=DEMAND_3):
     found = Counter()
     for place in range(0, len(cases), 2):
         first, second = (rule.figures(cases[number].sheet, answers[number]) for number in (place, place + 1))
+        wrong = against_rule(first, second)
         found["moved"] += first != second
         found[Header.from_bytes(cases[place].sheet).version] += 1
         if rule is DEMAND_3:
-            found.update(kinds_of_pair(*(case.sheet for case in cases[place:place + 2]), answers[place:place + 2]))
-        wrong = against_rule(first, second)
+            pair = [case.sheet for case in cases[place:place + 2]]
+            wrong = against_drawing(*pair) or wrong
+            found.update(kinds_of_pair(*pair, answers[place:place + 2]))
         if wrong:
             raise run.report_pair(start + place, *cases[place:place + 2], f"{rule.name}: {wrong}")
     return found

@@ -92,7 +92,7 @@ def draw_rows(rng, count, producers, consumers, scale):
 
 
 def draw_producer(rng, month, volume, scale):
-    """A producer whose rows have a volume in all: powers and capacities lie around what it owes."""
+    """A producer whose rows have a volume in all: powers and capacities lie around S."""
     deductible = 0 if rng.random() < 0.3 else rng.randrange(scale + 1)
     whole = volume + deductible
     own_needs = capacity(rng.choice((0, rng.randrange(scale + 1), whole)))
@@ -146,6 +146,11 @@ def one_row_sheet(rng, month, producer, volume):
 
 def plain_consumer(rng, contract, peak):
     return Consumer(contract, peak, 0, 0, LOWEST_Z, draw_price(rng))
+
+
+def summed(sheet, number):
+    """S of a producer before the cut."""
+    return sheet.volume_of(number) + sheet.producers[number].deductible
 
 
 def with_sum(rng, month, total):

@@ -3,7 +3,7 @@
 They are accepted, and powers differ from hour to hour, or one power differs from the others of its column, so that one
 that is read at another place shows. Or they are refused by 9, for one power at an end of a column.
 """
-from drawing import draw_sheet, flat, full_producer, one_row_sheet, spread
+from drawing import draw_sheet, flat, full_producer, one_row_sheet, spread, summed
 from records import CONTROL_HOURS, HOUR_FIELDS, TOP_CAPACITY
 from refused import first_of, last_of, power_of
 from row_days import LENGTHS, month_of
@@ -13,18 +13,13 @@ SERIES = tuple(field.key for field in HOUR_FIELDS)
 
 
 def plain_sheet(rng, days):
-    """One producer, with all that it owes in every hour and no outside use beyond its deductible capacity. Its row is
-    so large that one hour can show there."""
+    """One producer that works with S or more in every hour and has no outside use beyond its deductible capacity. Its
+    row is so large that one hour can show there."""
     month = month_of(rng, days)
     producer = full_producer(month)
     producer.deductible = rng.randrange(2000, 9000)
     producer.outside = flat(month, producer.deductible)
     return one_row_sheet(rng, month, producer, rng.randrange(50_000, 90_000))
-
-
-def owed(sheet):
-    """S of its one producer."""
-    return sheet.volume_of(0) + sheet.producers[0].deductible
 
 
 # ------------------------------------------------------------------ powers that differ from hour to hour
@@ -34,7 +29,7 @@ def powers_differ(days):
     """In no order: another order of columns, or a column that is begun elsewhere, shows."""
     def draw(rng):
         sheet = plain_sheet(rng, days)
-        producer, month, whole = sheet.producers[0], sheet.month, owed(sheet)
+        producer, month, whole = sheet.producers[0], sheet.month, summed(sheet, 0)
         producer.working = spread(rng, month, whole // 2, whole)
         producer.possible = spread(rng, month, whole * 3 // 4, min(whole * 5 // 4, TOP_CAPACITY))
         producer.outside = spread(rng, month, producer.deductible, 2 * producer.deductible)
@@ -46,13 +41,13 @@ def powers_differ(days):
 
 
 def one_working(rng, sheet, hour):
-    """Less works than is owed."""
-    sheet.producers[0].working[hour] = rng.randrange(owed(sheet) // 2)
+    """Less works than half of S."""
+    sheet.producers[0].working[hour] = rng.randrange(summed(sheet, 0) // 2)
 
 
 def one_possible(rng, sheet, hour):
-    """All that is possible works; in other hours half of what is owed."""
-    producer, half = sheet.producers[0], owed(sheet) // 2
+    """All that is possible works; in other hours half of S."""
+    producer, half = sheet.producers[0], summed(sheet, 0) // 2
     producer.working = flat(sheet.month, half)
     producer.possible[hour] = rng.randrange(half // 2, half + 1)
 
@@ -85,7 +80,7 @@ def noughts_beside(name):
     def draw(rng):
         sheet = plain_sheet(rng, rng.choice(LENGTHS))
         for each in SERIES:
-            setattr(sheet.producers[0], each, flat(sheet.month, owed(sheet) if each == name else 0))
+            setattr(sheet.producers[0], each, flat(sheet.month, summed(sheet, 0) if each == name else 0))
         return sheet
     return draw
 

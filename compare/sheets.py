@@ -21,6 +21,7 @@ import refused
 import ties
 from after_cut import AFTER_CUT
 from case_kinds import Kinds, in_bytes
+from drawing import summed
 from hour_columns import COLUMNS, HIGH_COLUMNS
 from records import HEADER, MOST_CONSUMERS, MOST_ROWS, TOP_CAPACITY, TOP_Z
 from refusals import BUFFER_NUMBER, FORM, TRIED
@@ -204,16 +205,11 @@ def free_to_attest(sheet):
     return [number for number in range(len(sheet.producers)) if rows[number] <= 1]
 
 
-def owed(sheet, number):
-    """S of a producer, by the volumes of the sheet."""
-    return sheet.volume_of(number) + sheet.producers[number].deductible
-
-
-def attest_what_is_owed(sheet):
-    """Producers with at most one row, of which nothing is cut however little is attested, since their own needs are as
-    high as S or higher: without own needs so much is attested that nothing is cut either."""
+def attest_summed(sheet):
+    """Producers with at most one row whose own needs are S or more, so that nothing is cut however little is attested:
+    attested is S instead, and own needs are what S has above the ceiling. Nothing is cut until less is attested."""
     for number in free_to_attest(sheet):
-        producer, whole = sheet.producers[number], owed(sheet, number)
+        producer, whole = sheet.producers[number], summed(sheet, number)
         if whole <= producer.own_needs:
             producer.attested, producer.own_needs = min(whole, TOP_CAPACITY), max(0, whole - TOP_CAPACITY)
     return sheet
@@ -222,7 +218,7 @@ def attest_what_is_owed(sheet):
 def cut_further(rng, sheet, number):
     """Lowers attested capacity so far that more of the producer's row is cut, if there is anything left of it."""
     producer = sheet.producers[number]
-    at_most = max(0, owed(sheet, number) - producer.own_needs)
+    at_most = max(0, summed(sheet, number) - producer.own_needs)
     producer.attested = max(0, min(producer.attested, at_most) - step(rng, sheet.volume_of(number)))
 
 
@@ -281,7 +277,7 @@ def draw_pair(rng, index, groups, taken, second_of, first_of=lambda sheet: sheet
 
 
 def pair(seed, index):
-    return draw_pair(Draws(f"{seed}/pair/{index}"), index, GROUPS, PAIR_GROUPS, worsened, attest_what_is_owed)
+    return draw_pair(Draws(f"{seed}/pair/{index}"), index, GROUPS, PAIR_GROUPS, worsened, attest_summed)
 
 
 def pairs(seed, count, start=0):
