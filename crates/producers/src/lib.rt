@@ -204,8 +204,8 @@ fn terms_of(s: &[u8], layout: Layout, p: u8, v: Volumes, control: ControlDays) -
     let x = producer(s, layout, p);
     let sold = sold_of(v);
     let excess = excess_of(summed_of(sold, x.deductible), x.needs, x.attested);
-    let left = sold.less(excess);
-    let f = hours_of(s, layout, p, summed_of(left, x.deductible), control);
+    let after = sold.less(excess);
+    let f = hours_of(s, layout, p, summed_of(after, x.deductible), control);
     if f.high {
         return OwnTerms {
             high: true,
@@ -217,7 +217,7 @@ fn terms_of(s: &[u8], layout: Layout, p: u8, v: Volumes, control: ControlDays) -
     // Without bilateral volume the single row is a support row, or has no volume: then both kinds give nothing.
     if v.rows == 1 {
         let bilateral = v.bilateral;
-        let product = single_product(bilateral.0 == 0, left, penalty, k4);
+        let product = single_product(bilateral.0 == 0, after, penalty, k4);
         let by = single_factors(layout.header, x, product);
         return OwnTerms {
             high: false,

@@ -46,7 +46,7 @@ asked-times a a′ v v′ d q l k = go (leb q (v′ + d)) refl
         let low : v′ + d ≤ q = omega (arith, leb-false q (v′ + d) e) in
         rw (min-eq-left low) (omega (arith, most, k, mul-le-mul-right d l))
 
--- The short form, where what is kept, met and asked is no more, and what is kept is no more beside what is asked.
+-- The short form, where what is kept, met and asked is no more, and neither is what is kept divided by what is asked.
 short-down : (met met′ asked asked′ : ℕ) {a a′ : ℕ} → met′ ≤ met → asked′ ≤ asked → a′ ≤ a → a′ * asked ≤ a * asked′
     → inShort a′ (metOver met′ asked′) ≤ inShort a (metOver met asked)
 unfolding inShort metOver
@@ -73,15 +73,15 @@ module _ (h : Header) (p p′ : Producer) (w : WorseProducer (hours h) p p′) (
   unfolding asked
   asked-less d = sum-mono _ _ refl (λ i b. omega (arith, l))
 
-  asked-beside : (d : ℕ) → a′ * sum (asked p (v + d)) (hours h) ≤ a * sum (asked p (v′ + d)) (hours h)
+  kept-over-asked : (d : ℕ) → a′ * sum (asked p (v + d)) (hours h) ≤ a * sum (asked p (v′ + d)) (hours h)
   unfolding asked
-  asked-beside d = sum-times _ _ _ _ (hours h) (λ i b. asked-times _ _ v v′ d (p .possible i) (keeps .0) (keeps .1))
+  kept-over-asked d = sum-times _ _ _ _ (hours h) (λ i b. asked-times _ _ v v′ d (p .possible i) (keeps .0) (keeps .1))
 
   short-fraction-down : (d : ℕ) → inShort a′ (exactK4 h p′ (v′ + d)) ≤ inShort a (exactK4 h p (v + d))
   unfolding exactK4
   short-fraction-down d =
       rw (asked-same h p p′ w (v′ + d))
-      (short-down _ _ _ _ (met-down h p p′ w (omega (arith, l))) (asked-less d) (keeps .0) (asked-beside d))
+      (short-down _ _ _ _ (met-down h p p′ w (omega (arith, l))) (asked-less d) (keeps .0) (kept-over-asked d))
 
 -- The header, the row's kind and the deductible capacity may be two names of one.
 fraction-down : {h h′ : Header} {p p′ : Producer} {support support′ : Bool} {d d′ : ℕ} (v v′ : ℕ) → h′ ≡ h → support′ ≡ support → d′ ≡ d
