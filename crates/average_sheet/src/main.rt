@@ -1,5 +1,6 @@
 // Reads a sheet from standard input and the record of an industrial complex from file descriptor 3, each at most 65,536 bytes. Prints the
 // sheet afterwards, byte for byte; of a refusal the line that a listing has, N and its number.
+#![tactic(auto)]
 use averaging::average;
 use changed_sheet::print_after;
 use libc::STDIN_FILENO;

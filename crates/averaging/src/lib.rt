@@ -1,4 +1,5 @@
 // Industrial complexes: the peak by averaging, written into a sheet. Every sheet and every record is answered.
+#![tactic(auto)]
 ghost use Rattle.std.specs.Prelude.{◌≡◌, ◌≤◌, ◌<◌, length};
 ghost use Rattle.rules.specs.Sheet.{sheet_length, with_peak};
 ghost use Rattle.rules.specs.ComplexRecord.{record_width};
@@ -34,7 +35,7 @@ fn write_peak(s: &mut [u8], layout: Layout, c: u8, peak: Tenths)
 // Writes the peak of an industrial complex, taken from its record, into that consumer's field of a sheet. A refusal changes no byte. Where
 // the peak is written the count is 0.
 pub fn average(sheet: &mut [u8], rec: &[u8]) -> Answer
-    ensures result_value { said result ≡ average_outcome sheet.old rec.now }
+    ensures answer { said result ≡ average_outcome sheet.old rec.now }
     ensures sheet { sheet.new ≡ averaged sheet.old rec.now }
 {
     let own = sheet_refusal(sheet);

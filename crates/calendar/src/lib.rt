@@ -1,4 +1,5 @@
 // The month's calendar: holidays and control days. Days are counted from 0.
+#![tactic(auto)]
 ghost use Rattle.std.specs.Prelude.{◌≡◌, ℕ, ◌/◌, ◌^◌, ltb};
 ghost use Rattle.rules.specs.ControlTable.{table_day, in_table};
 ghost use Rattle.calendar.specs.Days.{day_on};
@@ -10,7 +11,7 @@ pub mod table;
 use table::{YES, line_of};
 
 // Which days are control days: a bit for each, the lowest for day 0; none past the 31 that a month may have.
-#[derive(Drop)]
+#[derive(Clone, Copy)]
 pub struct ControlDays {
     pub on: u32,
 }

@@ -1,4 +1,5 @@
 // The entries for C, one below the other. All answers are i64: a count, or minus the refusal's number (include/capacity.h).
+#![tactic(auto)]
 ghost use Rattle.std.specs.Prelude.{◌≡◌, length, ◌<◌};
 ghost use Rattle.rules.specs.Outcome.{outcome, buffer_after};
 ghost use Rattle.rules.specs.Said.{said};
@@ -27,7 +28,7 @@ fn in_c(answer: Answer) -> i64
 // The settlement: the count of bytes written, or minus the refusal's number.
 #[unsafe(no_mangle)]
 pub extern "C" fn capacity_settle(sheet: &[u8], res: &mut [u8]) -> i64
-    ensures value { result ≡ in_c (outcome sheet.now (length res.old)) }
+    ensures answer { result ≡ in_c (outcome sheet.now (length res.old)) }
     ensures buffer { res.new ≡ buffer_after sheet.now res.old }
 {
     in_c(settle(sheet, res))
@@ -36,7 +37,7 @@ pub extern "C" fn capacity_settle(sheet: &[u8], res: &mut [u8]) -> i64
 // A list of transfers, applied to a sheet: 0, or minus the refusal's number.
 #[unsafe(no_mangle)]
 pub extern "C" fn capacity_transfer(sheet: &mut [u8], list: &[u8]) -> i64
-    ensures value { result ≡ in_c (transfer_outcome sheet.old list.now) }
+    ensures answer { result ≡ in_c (transfer_outcome sheet.old list.now) }
     ensures sheet { sheet.new ≡ transferred sheet.old list.now }
 {
     in_c(transfer(sheet, list))
@@ -45,7 +46,7 @@ pub extern "C" fn capacity_transfer(sheet: &mut [u8], list: &[u8]) -> i64
 // The peak of an industrial complex, written into a sheet: 0, or minus the refusal's number.
 #[unsafe(no_mangle)]
 pub extern "C" fn capacity_average(sheet: &mut [u8], rec: &[u8]) -> i64
-    ensures value { result ≡ in_c (average_outcome sheet.old rec.now) }
+    ensures answer { result ≡ in_c (average_outcome sheet.old rec.now) }
     ensures sheet { sheet.new ≡ averaged sheet.old rec.now }
 {
     in_c(average(sheet, rec))
@@ -54,7 +55,7 @@ pub extern "C" fn capacity_average(sheet: &mut [u8], rec: &[u8]) -> i64
 // Consumers under the text of 2015: the count of bytes written, or minus the refusal's number.
 #[unsafe(no_mangle)]
 pub extern "C" fn capacity_settle_2015(sheet: &[u8], res: &mut [u8]) -> i64
-    ensures value { result ≡ in_c (outcome_2015 sheet.now (length res.old)) }
+    ensures answer { result ≡ in_c (outcome_2015 sheet.now (length res.old)) }
     ensures buffer { res.new ≡ buffer_after_2015 sheet.now res.old }
 {
     in_c(settle_2015(sheet, res))

@@ -1,4 +1,5 @@
 // What an entry left of a sheet, printed: the sheet's bytes, or the line of a refusal.
+#![tactic(auto)]
 ghost use Rattle.std.specs.Prelude.{◌≡◌};
 ghost use Rattle.rules.specs.Said.{said};
 

@@ -1,4 +1,5 @@
 // The coefficients of missing hours, on plain numbers.
+#![tactic(auto)]
 ghost use Rattle.std.specs.Prelude.{◌≡◌, ◌-◌, max};
 ghost use Rattle.rules.specs.Coefficients.{share};
 

@@ -1,4 +1,5 @@
 // Big-endian fields, read at any place of a slice; and four bytes as the machine's word has them.
+#![tactic(auto)]
 ghost use Rattle.std.specs.Prelude.{◌≡◌, ◌+◌, ◌*◌, ◌≤◌};
 ghost use Rattle.rules.specs.Fields.{big_endian};
 

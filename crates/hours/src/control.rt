@@ -75,7 +75,7 @@ fn by_power(part: &[u8], x: Series, days: u8, control: ControlDays) -> Control
 // Two powers of a column, the first in the upper 32 bits: one load.
 fn two_powers(part: &[u8], of: Series, i: usize) -> u64
     requires stands { Stands part.now of (i + 2) × (i < 65000) }
-    requires i_bound { (power_in part.now of i ≤ 100000) × (power_in part.now of (i + 1) ≤ 100000) }
+    requires low { (power_in part.now of i ≤ 100000) × (power_in part.now of (i + 1) ≤ 100000) }
     ensures { Twos (power_in part.now of i + power_in part.now of (i + 1)) 100000 result }
 {
     (power(part, of, i) as u64 * TWO_TO_32) | (power(part, of, i + 1) as u64)
@@ -84,7 +84,7 @@ fn two_powers(part: &[u8], of: Series, i: usize) -> u64
 // The powers of a day's hours 17 to 22, two by two.
 fn evening_twos(part: &[u8], of: Series, day: usize) -> u64
     requires stands { Stands part.now of (24 * day + 23) × (day < 256) }
-    requires by_index { (i : ℕ) → i < 24 * day + 23 → power_in part.now of i ≤ 100000 }
+    requires low { (i : ℕ) → i < 24 * day + 23 → power_in part.now of i ≤ 100000 }
     ensures { Twos (evening (power_in part.now of) day) 300000 result }
 {
     let at = 24 * day + 17;
@@ -94,7 +94,7 @@ fn evening_twos(part: &[u8], of: Series, day: usize) -> u64
 // The same as by_power of a column whose powers are within the ceiling. The step is written out, so that the compiler knows it.
 fn by_column(part: &[u8], start: u16, days: u8, control: ControlDays) -> Control
     requires stands { Stands part.now (series start 4) (24 * days) × (days ≤ 31) }
-    requires by_index { (i : ℕ) → i < 24 * days → power_in part.now (series start 4) i ≤ 100000 }
+    requires low { (i : ℕ) → i < 24 * days → power_in part.now (series start 4) i ≤ 100000 }
     ensures { (result ≡ control_of (power_in part.now (series start 4)) control.on days) × (result.counted.0 ≤ most_word * result.count)
         × (result.count ≤ 186) }
 {
@@ -119,7 +119,7 @@ fn by_column(part: &[u8], start: u16, days: u8, control: ControlDays) -> Control
 // counted where the part ends before the powers do, or in a month of more than 31 days.
 fn outside_hours(part: &[u8], x: Series, days: u8, control: ControlDays) -> Control
     requires { high_powers part.now ≡ false }
-    ensures value { result ≡ power_control part.now x days control.on }
+    ensures control { result ≡ power_control part.now x days control.on }
     ensures fits { (result.counted.0 ≤ most_word * result.count) × (result.count ≤ 186) }
 {
     if (days <= 31) & stands(part, x, 24 * (days as u16)) {
@@ -137,7 +137,7 @@ fn outside_hours(part: &[u8], x: Series, days: u8, control: ControlDays) -> Cont
 // Its control average to a hundredth.
 pub(crate) fn outside_average(part: &[u8], x: Series, days: u8, control: ControlDays) -> Hundredths
     requires { high_powers part.now ≡ false }
-    ensures result_value { result.0 ≡ average_of hundredth (power_control part.now x days control.on) }
+    ensures average { result.0 ≡ average_of hundredth (power_control part.now x days control.on) }
     ensures fits { result.0 ≤ 10 * most_word }
 {
     Hundredths(average_of(outside_hours(part, x, days, control), HUNDREDTH))
@@ -180,7 +180,7 @@ fn by_net(part: &[u8], of: Series, taken: Series, days: u8, control: ControlDays
 // The control hours of one series less another, however high their powers are. Nothing is counted where the part ends before the powers do, or in a month
 // of more than 31 days.
 fn net_hours(part: &[u8], of: Series, taken: Series, days: u8, control: ControlDays) -> Control
-    ensures value { result ≡ net_control part.now of taken days control.on }
+    ensures control { result ≡ net_control part.now of taken days control.on }
     ensures fits { (result.counted.0 ≤ most_word * result.count) × (result.count ≤ 186) }
 {
     let hours = 24 * (days as u16);

@@ -50,9 +50,9 @@ fn is_column(x: Series, start: usize) -> bool
 // is. A month that begins with low powers is taken for a low one first. An S above all powers is as one at the highest they may have.
 fn tried_sums(part: &[u8], days: u8, summed: Tenths) -> TriedSums
     requires { (length part.now ≡ 3 * (96 * days)) × (1 ≤ days) × (days ≤ 31) }
-    ensures powers_within { result.right ≡ true → PowersWithin part.now (48 * days)
+    ensures sound { result.right ≡ true → PowersWithin part.now (48 * days)
         × ColumnsSummed part.now days summed.0 result.sums }
-    ensures right_value { high_powers part.now ≡ false → result.right ≡ true }
+    ensures complete { high_powers part.now ≡ false → result.right ≡ true }
 {
     let column = 96 * (days as usize);
     let held = summed.smaller(Tenths(Tenths::CEILING));
@@ -88,8 +88,8 @@ fn high_month() -> MonthSums
 // Of a month of columns, for a summed capacity S.
 fn column_sums(part: &[u8], days: u8, summed: Tenths) -> MonthSums
     requires { (length part.now ≡ 3 * (96 * days)) × (1 ≤ days) × (days ≤ 31) }
-    ensures high_value { result.high ≡ high_powers part.now }
-    ensures sums_value { (result.high ≡ true → result.sums ≡ no_sums)
+    ensures high { result.high ≡ high_powers part.now }
+    ensures sums { (result.high ≡ true → result.sums ≡ no_sums)
         × (result.high ≡ false
         → ColumnsSummed part.now days summed.0 result.sums) }
 {
@@ -104,7 +104,7 @@ fn column_sums(part: &[u8], days: u8, summed: Tenths) -> MonthSums
 
 // Of a month of so many days, for a summed capacity S.
 fn month_sums(part: &[u8], of: HourSeries, days: u8, summed: Tenths) -> MonthSums
-    ensures high_value { (result.high ≡ high_powers part.now) × (result.sums ≡ sums_below part.now of days summed.0) }
+    ensures figures { (result.high ≡ high_powers part.now) × (result.sums ≡ sums_below part.now of days summed.0) }
     ensures fits { (result.sums.asked.0 ≤ most_word * (24 * days)) × (result.sums.met.0 ≤ most_word * (24 * days)) }
 {
     if in_columns(part, of, days) {
@@ -125,7 +125,7 @@ pub fn hour_figures(
     summed: Tenths,
     control: ControlDays,
 ) -> HourFigures
-    ensures value { result ≡ hour_figures part.now of days summed.0 control.on }
+    ensures figures { result ≡ hour_figures part.now of days summed.0 control.on }
     ensures fits { (result.sums.asked.0 ≤ most_word * (24 * days)) × (result.sums.met.0 ≤ most_word * (24 * days)) × (result.average.0 ≤ 10 * most_word) }
 {
     let month = month_sums(part, of, days, summed);

@@ -36,7 +36,7 @@ pub(crate) fn no_sums() -> K4
 // k4's sums with hour i, for a summed capacity S.
 fn with_hour(k: K4, part: &[u8], working: Series, possible: Series, i: usize, summed: Tenths) -> K4
     requires stands { Stands part.now working (i + 1) × Stands part.now possible (i + 1) × (i < 7000) }
-    requires k4before { K4Before (power_in part.now working) (power_in part.now possible) summed.0 i k }
+    requires so_far { K4Before (power_in part.now working) (power_in part.now possible) summed.0 i k }
     ensures { K4Before (power_in part.now working) (power_in part.now possible) summed.0 (i + 1) result }
 {
     let m = summed.smaller(Tenths::stated(power(part, possible, i)));
@@ -58,7 +58,7 @@ fn with_hours(
     summed: Tenths,
 ) -> K4
     requires stands { Stands part.now working (from + count) × Stands part.now possible (from + count) × (from + count ≤ 6120) }
-    requires k4before { K4Before (power_in part.now working) (power_in part.now possible) summed.0 from k }
+    requires so_far { K4Before (power_in part.now working) (power_in part.now possible) summed.0 from k }
     ensures { K4Before (power_in part.now working) (power_in part.now possible) summed.0 (from + count) result }
 {
     let mut sums = k;
@@ -116,7 +116,7 @@ pub(crate) fn k4_sums(
     days: u8,
     summed: Tenths,
 ) -> K4
-    ensures value { result ≡ k4_in part.now working possible days summed.0 }
+    ensures sums { result ≡ k4_in part.now working possible days summed.0 }
     ensures fits { (result.asked.0 ≤ most_word * (24 * days)) × (result.met.0 ≤ most_word * (24 * days)) }
 {
     let hours = 24 * (days as u16);

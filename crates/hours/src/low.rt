@@ -84,8 +84,8 @@ fn added_at(part: &[u8], half: usize, k: usize, summed: u16) -> Added
 
 // The lanes after eight turns more.
 fn with_eight(k: Lanes, part: &[u8], half: usize, q: usize, summed: u16) -> Lanes
-    requires half_in_bounds { (16 * half ≤ length part.now) × (8 * q + 8 ≤ 2 * half) × (q < 256) }
-    requires lanes_after { LanesAfter part.now half summed q k }
+    requires stands { (16 * half ≤ length part.now) × (8 * q + 8 ≤ 2 * half) × (q < 256) }
+    requires so_far { LanesAfter part.now half summed q k }
     ensures { LanesAfter part.now half summed (q + 1) result }
 {
     let mut r = k;
@@ -161,8 +161,8 @@ fn is_clear(near: [u16; 8], far: [u16; 8]) -> bool
 
 // k4's sums of a month of so many days whose first powers are low. They are called right only if all are; that they then are is a matter of speed.
 pub(crate) fn low_sums(part: &[u8], days: usize, summed: u16) -> TriedSums
-    requires days_in_bounds { (192 * days ≤ length part.now) × (1 ≤ days) × (days ≤ 31) }
-    requires part_bound { (big_endian 4 part.now 0 ≤ 65535) × (big_endian 4 part.now (96 * days) ≤ 65535) }
+    requires month { (192 * days ≤ length part.now) × (1 ≤ days) × (days ≤ 31) }
+    requires low_begin { (big_endian 4 part.now 0 ≤ 65535) × (big_endian 4 part.now (96 * days) ≤ 65535) }
     ensures { result.right ≡ true → LowHours part.now 0 (12 * days) × LowHours part.now (96 * days) (12 * days)
         × ColumnsSummed part.now days summed result.sums }
 {

@@ -73,8 +73,8 @@ fn smaller(a: u32, b: u32) -> u32
 
 // The sums with hour i of so many. Working powers stand at the part's front, possible ones after them.
 fn with_within(k: Within, part: &[u8], hours: usize, i: usize, summed: u32) -> Within
-    requires hours_in_bounds { (12 * hours ≤ length part.now) × (i < hours) × (hours ≤ 744) × (summed ≤ 100000) }
-    requires within_before { WithinBefore part.now hours summed i k }
+    requires stands { (12 * hours ≤ length part.now) × (i < hours) × (hours ≤ 744) × (summed ≤ 100000) }
+    requires so_far { WithinBefore part.now hours summed i k }
     ensures { WithinBefore part.now hours summed (i + 1) result }
 {
     let p = power_read(part, 4 * hours + 4 * i);
@@ -120,9 +120,9 @@ fn told_high(under: u32, words: u32) -> bool
 // The part's first byte stands in no word that was read, so it is tried here.
 pub(crate) fn within_sums(part: &[u8], hours: usize, summed: u32) -> TriedSums
     requires { (length part.now ≡ 12 * hours) × (1 ≤ hours) × (hours ≤ 744) × (summed ≤ 100000) }
-    ensures powers_within { result.right ≡ true → PowersWithin part.now (2 * hours)
+    ensures sound { result.right ≡ true → PowersWithin part.now (2 * hours)
         × K4Before (power_in part.now (series 0 4)) (power_in part.now (series (4 * hours) 4)) summed hours result.sums }
-    ensures right_value { high_powers part.now ≡ false → result.right ≡ true }
+    ensures complete { high_powers part.now ≡ false → result.right ≡ true }
 {
     let k = all_within(part, hours, summed);
     let down = 100_001 * (hours as u32);

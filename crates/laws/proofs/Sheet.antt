@@ -106,9 +106,9 @@ same_fields n t to s from h w k b =
     (λ i l. ap (λ (x : ℕ). get_or t x 0) (add_assoc to k i) ∙ h (k + i) (omega arith) ∙ ap (λ (x : ℕ). get_or s x 0) (sym (add_assoc from k i)))
 
 -- Bytes of s that stand in t.
-pub length_from : (s : List ℕ) (at n : ℕ) → length (bytes_from s at n) ≡ n
+pub length-from : (s : List ℕ) (at n : ℕ) → length (bytes_from s at n) ≡ n
 unfolding bytes_from
-length_from s at n = length-listed _ n
+length-from s at n = length-listed _ n
 
 pub held_from : (n : ℕ) (t : List ℕ) (to : ℕ) (s : List ℕ) (from : ℕ) → Holds t to (bytes_from s from n) → SameFields n t to s from
 unfolding bytes_from

@@ -63,15 +63,15 @@ module _ (l : Layout) (v : ℕ → ℕ) (s : List ℕ) where
   fewer : (n : ℕ) → Room (suc n) → Room n
   fewer n r c b = r c (omega arith)
 
-  pub length_contracts : (n : ℕ) → Room n → length (with_contracts l v n s) ≡ length s
+  pub length-contracts : (n : ℕ) → Room n → length (with_contracts l v n s) ≡ length s
   unfolding with_contracts
-  length_contracts zero r = refl
-  length_contracts (suc n) r =
-      let e : length (with_contracts l v n s) ≡ length s = length_contracts n (fewer n r) in
+  length-contracts zero r = refl
+  length-contracts (suc n) r =
+      let e : length (with_contracts l v n s) ≡ length s = length-contracts n (fewer n r) in
       length-over_at (contract_at l n) (bytes_of 4 (v n)) (with_contracts l v n s) (rw length-bytes_of (omega (arith, r n (omega arith)))) ∙ e
 
   fits : (n : ℕ) → Room (suc n) → contract_at l n + length (bytes_of 4 (v n)) ≤ length (with_contracts l v n s)
-  fits n r = rw length-bytes_of (omega (arith, r n (omega arith), length_contracts n (fewer n r)))
+  fits n r = rw length-bytes_of (omega (arith, r n (omega arith), length-contracts n (fewer n r)))
 
   pub contracts_keep : (n : ℕ) → Room n → (i : ℕ) → Outside l n i → get_or (with_contracts l v n s) i 0 ≡ get_or s i 0
   unfolding with_contracts

@@ -1,4 +1,5 @@
 // The listing: a settlement's figures as lines of text, read back from the result's bytes; and that under the text of 2015.
+#![tactic(auto)]
 ghost use Rattle.std.specs.Prelude.{◌≡◌, ◌≤◌};
 ghost use Rattle.rules.specs.Outcome.{outcome};
 ghost use Rattle.rules.specs.Said.{said};

@@ -2,7 +2,7 @@
 use libc::STDOUT_FILENO;
 
 // The text so far, and its length. A line has at most 77 characters, whatever bytes the result holds.
-#[derive(Drop)]
+#[derive(Clone, Copy)]
 pub(crate) struct Line {
     text: [u8; 96],
     length: usize,

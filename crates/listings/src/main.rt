@@ -1,4 +1,5 @@
 // Prints the listings of the stored sheets, one after the other.
+#![tactic(auto)]
 
 // The listing of the sheet in a file.
 fn list_file(name: &[u8]) {

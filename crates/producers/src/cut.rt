@@ -42,8 +42,8 @@ fn cut_row(c: CutRows, r: Row) -> CutRows
 
 // T of producer p after its excess is cut from its rows in sheet order.
 fn support_by_rows(s: &[u8], layout: Layout, p: u8, over: Tenths) -> Tenths
-    requires layout_in_bounds { sheet_length layout ≤ length s.now }
-    requires over_value { over.0 ≡ excess (month_under layout s.now) p }
+    requires whole { sheet_length layout ≤ length s.now }
+    requires over { over.0 ≡ excess (month_under layout s.now) p }
     ensures { result.0 ≡ support_after (month_under layout s.now) p }
 {
     let mut c = CutRows {
@@ -63,8 +63,8 @@ fn support_by_rows(s: &[u8], layout: Layout, p: u8, over: Tenths) -> Tenths
 
 // The same; where nothing is cut it is the T of the sheet's volumes.
 pub(crate) fn support_after(s: &[u8], layout: Layout, p: u8, v: Volumes, over: Tenths) -> Tenths
-    requires layout_in_bounds { sheet_length layout ≤ length s.now }
-    requires v_value { (v ≡ volumes_of (month_under layout s.now) p) × (over.0 ≡ excess (month_under layout s.now) p) }
+    requires whole { sheet_length layout ≤ length s.now }
+    requires given { (v ≡ volumes_of (month_under layout s.now) p) × (over.0 ≡ excess (month_under layout s.now) p) }
     ensures { result.0 ≡ support_after (month_under layout s.now) p }
 {
     if over.0 == 0 {

@@ -1,4 +1,5 @@
 // What a producer's rows are settled by: its excess and what they are multiplied by, from any bytes under any header.
+#![tactic(auto)]
 mod cut;
 mod k1;
 
@@ -26,7 +27,7 @@ use units::{Millionths, ONE, Tenths, nearest};
 use volumes::{Volumes, row_volumes};
 
 // What is left to cut of a producer's rows, and what they are multiplied by.
-#[derive(Drop)]
+#[derive(Clone, Copy)]
 pub struct Terms {
     pub excess: Tenths,
     pub by: Factors,
@@ -168,9 +169,9 @@ fn no_terms() -> Terms
 
 // What producer p's hours give, for a summed capacity S.
 fn hours_of(s: &[u8], layout: Layout, p: u8, summed: Tenths, control: ControlDays) -> HourFigures
-    requires days_bound { (layout.header.days ≤ 31) × (hours_at layout p + hours_width layout.header ≤ length s.now) }
-    requires le_weekday { (1 ≤ layout.header.weekday) × (layout.header.weekday ≤ 7) × ((d : ℕ) → day_on control.on d ≡ table_day layout.header d) }
-    ensures high_value { result.high ≡ high_in layout s.now p }
+    requires stands { (layout.header.days ≤ 31) × (hours_at layout p + hours_width layout.header ≤ length s.now) }
+    requires control { (1 ≤ layout.header.weekday) × (layout.header.weekday ≤ 7) × ((d : ℕ) → day_on control.on d ≡ table_day layout.header d) }
+    ensures high { result.high ≡ high_in layout s.now p }
     ensures known { result.high ≡ false → HoursKnown layout s.now p summed.0 result }
 {
     let hours = stretch(s, layout, p);
@@ -180,9 +181,9 @@ fn hours_of(s: &[u8], layout: Layout, p: u8, summed: Tenths, control: ControlDay
 
 // Producer p's excess and factors, before the first row; none where an hour has a power above the ceiling.
 fn terms_of(s: &[u8], layout: Layout, p: u8, v: Volumes, control: ControlDays) -> OwnTerms
-    requires days_bound { (layout.header.days ≤ 31) × (hours_at layout p + hours_width layout.header ≤ length s.now) × (sheet_length layout ≤ length s.now) }
-    requires v_value { (v ≡ volumes_of (month_under layout s.now) p) × Fits v }
-    requires le_weekday { (1 ≤ layout.header.weekday) × (layout.header.weekday ≤ 7) × ((d : ℕ) → day_on control.on d ≡ table_day layout.header d) }
+    requires stands { (layout.header.days ≤ 31) × (hours_at layout p + hours_width layout.header ≤ length s.now) × (sheet_length layout ≤ length s.now) }
+    requires volumes { (v ≡ volumes_of (month_under layout s.now) p) × Fits v }
+    requires control { (1 ≤ layout.header.weekday) × (layout.header.weekday ≤ 7) × ((d : ℕ) → day_on control.on d ≡ table_day layout.header d) }
     ensures { result ≡ own_terms layout s.now p }
 {
     let x = producer(s, layout, p);
@@ -234,7 +235,7 @@ fn with_terms(s: &[u8], layout: Layout) -> u8
 
 // The excess and the factors of six producers, before the first row, and number 9 of their hours.
 pub fn all_terms(s: &[u8], layout: Layout) -> AllTerms
-    ensures of_value { result.of ≡ listed (terms_of layout s.now) 6 }
+    ensures terms { result.of ≡ listed (terms_of layout s.now) 6 }
     ensures high { result.high ≡ high_hours layout s.now (with_terms layout s.now) }
 {
     let none = no_terms();

@@ -7,7 +7,7 @@ use sheet::stretch;
 
 // Producer p's hours: that part of the lent sheet, and no copy. Empty where a number from 1 to 6 applies, or there is no producer p.
 pub fn producer_hours(s: &[u8], p: u8) -> &[u8]
-    ensures result_value { result.now ≡ within (hours_stretch s.now p) s.now }
+    ensures part { result.now ≡ within (hours_stretch s.now p) s.now }
     ensures place { (result.ref_ptr.0 ≡ s.entry.ref_ptr.0) × (result.ref_ptr.1 ≡ (hours_stretch s.now p).place + s.entry.ref_ptr.1) }
     ensures bytes { length result.now ≡ (hours_stretch s.now p).bytes }
 {

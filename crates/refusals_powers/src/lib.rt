@@ -3,6 +3,7 @@
 // tried some at a time, and passed while each of their powers has two zero bytes at the front. From the first that are not passed on every
 // power leaves its marks, and the marks of all are tested once. Where all blocks are passed, those after the last are passed in the same way, or
 // tried one by one.
+#![tactic(auto)]
 ghost use Rattle.std.specs.Prelude.{◌≡◌, false, ◌||◌, ◌+◌, ◌-◌, ◌*◌, ◌/◌, ◌^◌, ◌<◌, ◌≤◌, length};
 ghost use Rattle.rules.specs.Range.{any};
 ghost use Rattle.rules.specs.Fields.{big_endian};

@@ -1,6 +1,6 @@
 -- Hours by column, and sheets of version 3: figures of our own. [Requests, 7]
 use Rattle.std.specs.Prelude.{ℕ, ◌+◌, ◌≡◌, refl}
-use mathlib.Core.List.{List, [], ◌∷◌, ◌++◌, replicate}
+use Rattle.std.specs.Prelude.{List, [], ◌∷◌, ◌++◌, replicate}
 use Rattle.rules.specs.Range.{when}
 use Rattle.rules.specs.Units.{hundredth}
 use Rattle.rules.specs.Month.{Header, Producer, Month}

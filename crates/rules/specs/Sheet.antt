@@ -90,7 +90,7 @@ abbrev pub peak_at : Layout → ℕ → ℕ
 peak_at l c = consumer_at l c + 4
 
 -- The length that version, month and counts ask for: the place past the last consumer.
--- (sheet_length_in_full, in laws/Sheet: 14 + P × (42 + 288 × days) + row_width × R + 15 × C; row-width-1 and row-width-2 there.)
+-- (sheet_length_in_full, in laws/Sheet: 14 + P × (42 + 288 × days) + row_width × R + 15 × C; row_width_1 and row_width_2 there.)
 unfoldable pub sheet_length : Layout → ℕ
 sheet_length l = consumer_at l l.header.consumers
 

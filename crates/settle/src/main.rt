@@ -1,4 +1,5 @@
 // Reads a sheet from standard input, at most 65,536 bytes, and prints its listing.
+#![tactic(auto)]
 use libc::STDIN_FILENO;
 
 fn main() {

@@ -1,4 +1,5 @@
 // Reads a sheet from standard input, at most 65,536 bytes, and prints its consumers' listing under the text of 2015.
+#![tactic(auto)]
 use libc::STDIN_FILENO;
 
 fn main() {

@@ -1,5 +1,6 @@
 // Prints the seven months of the table of control weekdays as printed calendars have them: a line of weekdays, weeks in lines, and a mark
 // before each day of which the table says yes. It reads the lines that the settlement reads.
+#![tactic(auto)]
 ghost use Rattle.std.specs.Prelude.{◌≤◌};
 
 use calendar::table::{Line, YES, line_of};

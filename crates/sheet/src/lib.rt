@@ -1,5 +1,6 @@
 // What a sheet says in its version, its header, its producers, its rows and its consumers. A record that is not whole in the sheet reads as
 // nothing.
+#![tactic(auto)]
 ghost use Rattle.std.specs.Prelude.{◌≡◌, ◌+◌, length};
 ghost use Rattle.rules.specs.Sheet.{header_of, layout_of, day_at};
 ghost use Rattle.rules.specs.Outcome.{within};
@@ -82,7 +83,7 @@ pub fn producer(s: &[u8], layout: Layout, p: u8) -> Stated
 
 // The stretch of producer p's hours: that part of the lent sheet, and no copy. Empty where the sheet ends before it does.
 pub fn stretch(s: &[u8], layout: Layout, p: u8) -> &[u8]
-    ensures result_value { result.now ≡ within (stretch_in layout (length s.now) p) s.now }
+    ensures part { result.now ≡ within (stretch_in layout (length s.now) p) s.now }
     ensures place { (result.ref_ptr.0 ≡ s.entry.ref_ptr.0) × (result.ref_ptr.1 ≡ (stretch_in layout (length s.now) p).place + s.entry.ref_ptr.1) }
 {
     let at = hours_at(layout, p);

@@ -12,8 +12,8 @@ use writing::put_word;
 
 // The records of all consumers, at the front of the part that is lent.
 fn write_consumers(s: &[u8], layout: Layout, out: &mut [u8])
-    requires month_limits { MonthLimits (month_under layout s.now) × (sheet_length layout ≤ length s.now) }
-    requires consumers_in_bounds { 17 * layout.header.consumers ≤ length out.old }
+    requires limits { MonthLimits (month_under layout s.now) × (sheet_length layout ≤ length s.now) }
+    requires room { 17 * layout.header.consumers ≤ length out.old }
     ensures { out.new ≡ over (joined (record_2015 (month_under layout s.now)) layout.header.consumers) out.old }
 {
     let mut c: u8 = 0;
@@ -28,8 +28,8 @@ fn write_consumers(s: &[u8], layout: Layout, out: &mut [u8])
 
 // The whole result of an accepted month.
 pub(crate) fn write_result(s: &[u8], layout: Layout, count: usize, out: &mut [u8])
-    requires month_limits { MonthLimits (month_under layout s.now) × (sheet_length layout ≤ length s.now) }
-    requires count_value { (count ≡ length_2015 layout.header) × (count ≤ length out.old) }
+    requires limits { MonthLimits (month_under layout s.now) × (sheet_length layout ≤ length s.now) }
+    requires room { (count ≡ length_2015 layout.header) × (count ≤ length out.old) }
     ensures { out.new ≡ over (result_2015 (month_under layout s.now)) out.old }
 {
     put_word(out, count as u64);

@@ -13,13 +13,13 @@ use Rattle.laws.proofs.Fields.{Holds, holds_left, holds_right, length-laid, Fit,
 use Rattle.laws.proofs.Figures as Figures
 
 module _ (m : Month) where
-  length_row : (j : ℕ) → length (row_record m j) ≡ 16
+  length-row : (j : ℕ) → length (row_record m j) ≡ 16
   unfolding row_record width_of
-  length_row j = length-laid (row_fields (row_figures m j))
+  length-row j = length-laid (row_fields (row_figures m j))
 
-  length_consumer : (c : ℕ) → length (consumer_record m c) ≡ 25
+  length-consumer : (c : ℕ) → length (consumer_record m c) ≡ 25
   unfolding consumer_record width_of
-  length_consumer c = length-laid (consumer_fields (consumer_figures m c))
+  length-consumer c = length-laid (consumer_fields (consumer_figures m c))
 
   length_head : length (laid (head_fields m.header)) ≡ 5
   unfolding width_of
@@ -30,10 +30,10 @@ module _ (m : Month) where
   length_totals = length-laid (total_fields (total_figures m))
 
   length-rows : length (joined (row_record m) m.header.rows) ≡ 16 * m.header.rows
-  length-rows = length-joined (row_record m) 16 length_row m.header.rows
+  length-rows = length-joined (row_record m) 16 length-row m.header.rows
 
   length-consumers : length (joined (consumer_record m) m.header.consumers) ≡ 25 * m.header.consumers
-  length-consumers = length-joined (consumer_record m) 25 length_consumer m.header.consumers
+  length-consumers = length-joined (consumer_record m) 25 length-consumer m.header.consumers
 
   -- The result is as long as it says.
   pub result_has_length : length (result_of m) ≡ result_length m.header
@@ -75,7 +75,7 @@ module _ (m : Month) (w : MonthLimits m) where
     rows = holds_right out 0 (laid (head_fields m.header)) _ (omega (arith, length_head m)) (holds_left out 0 _ _ to_consumers)
 
     row : (j : ℕ) → j < m.header.rows → Holds out (row_record_at j) (row_record m j)
-    row j l = unfold row_record_at in held_record (row_record m) 16 (length_row m) out 5 m.header.rows rows j l
+    row j l = unfold row_record_at in held_record (row_record m) 16 (length-row m) out 5 m.header.rows rows j l
 
     consumers : Holds out (row_record_at m.header.rows) (joined (consumer_record m) m.header.consumers)
     consumers = holds_right out 0 (laid (head_fields m.header) ++ joined (row_record m) m.header.rows) _ past to_consumers
@@ -85,7 +85,7 @@ module _ (m : Month) (w : MonthLimits m) where
 
     consumer : (c : ℕ) → c < m.header.consumers → Holds out (consumer_record_at m.header c) (consumer_record m c)
     consumer c l =
-        unfold consumer_record_at in held_record (consumer_record m) 25 (length_consumer m) out (row_record_at m.header.rows) m.header.consumers consumers c l
+        unfold consumer_record_at in held_record (consumer_record m) 25 (length-consumer m) out (row_record_at m.header.rows) m.header.consumers consumers c l
 
     totals : Holds out (totals_at m.header) (laid (total_fields (total_figures m)))
     totals = unfold result_of in holds_right out 0 (laid (head_fields m.header) ++ joined (row_record m) m.header.rows ++ joined (consumer_record m) m.header.consumers) _ past h

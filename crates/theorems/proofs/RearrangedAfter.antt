@@ -24,8 +24,8 @@ use Rattle.rules.specs.ComplexRecord.{complex}
 use Rattle.rules.specs.Averaging.{complex_peak, peak_written, average_refusal, averaged}
 use Rattle.laws.proofs.Arrays.{get_or-listed}
 use Rattle.laws.proofs.Fields.{length-bytes_of, same_bytes}
-use Rattle.laws.proofs.Sheet.{Spans, series_span, span_ends, consumer_inside, length_from, header_same}
-use Rattle.laws.proofs.Written.{length-over_at, over_at_holds, over_at_keeps, Outside, Room, length_contracts, contracts_keep, contracts_same}
+use Rattle.laws.proofs.Sheet.{Spans, series_span, span_ends, consumer_inside, length-from, header_same}
+use Rattle.laws.proofs.Written.{length-over_at, over_at_holds, over_at_keeps, Outside, Room, length-contracts, contracts_keep, contracts_same}
 use Rattle.laws.proofs.Refusals.{form_clear}
 use Rattle.laws.proofs.Transfers.{after_same, applied_limits}
 use Rattle.laws.proofs.Averaging.{averaged_limits}
@@ -69,8 +69,8 @@ byte_from s at n i l = get_or-listed 0 _ n i l
 
 bytes_same : (t s : List ℕ) (at n : ℕ) → ((i : ℕ) → i < n → get_or t (at + i) 0 ≡ get_or s (at + i) 0) → bytes_from t at n ≡ bytes_from s at n
 bytes_same t s at n h =
-    ext_get_or 0 (bytes_from t at n) (bytes_from s at n) (length_from t at n ∙ sym (length_from s at n))
-    (λ i l. let b = rw (length_from t at n) at l in byte_from t at n i b ∙ h i b ∙ sym (byte_from s at n i b))
+    ext_get_or 0 (bytes_from t at n) (bytes_from s at n) (length-from t at n ∙ sym (length-from s at n))
+    (λ i l. let b = rw (length-from t at n) at l in byte_from t at n i b ∙ h i b ∙ sym (byte_from s at n i b))
 
 -- t has the bytes of s before its rows, where s is a sheet of version 2 that gets past number 6.
 module _ (s t : List ℕ) (form : FormLimits s) (second : version s ≡ 2) where
@@ -132,14 +132,14 @@ module _ (s t : List ℕ) (form : FormLimits s) (second : version s ≡ 2) where
 
     length_front : length (front_of l s) ≡ r
     length_front =
-        simp (length-append, OtherVersion.length_front (length_field s) 3, length_from, Version3.length-producers s form second)
+        simp (length-append, OtherVersion.length_front (length_field s) 3, length-from, Version3.length-producers s form second)
         (omega (arith, Version3.rows_at s form second, mul_comm (header_of s).producers (42 + 288 * (header_of s).days)))
 
     length-rearranged : length (rearranged t) ≡ sheet_length l
     length-rearranged =
         ap length rearranged_t
         ∙ length-append (front_of l s) (behind l t)
-        ∙ omega (arith, length_front, length_from t r (sheet_length l - r), Version3.rows_inside s form second)
+        ∙ omega (arith, length_front, length-from t r (sheet_length l - r), Version3.rows_inside s form second)
 
     -- A byte before the rows is that of the rearrangement of s, one behind them that of t.
     byte_front : (i : ℕ) → i < r → get_or (rearranged t) i 0 ≡ get_or (front_of l s) i 0
@@ -223,8 +223,8 @@ module _ (s : List ℕ) (form : FormLimits s) (second : version s ≡ 2) where
         let least : n ≤ count = omega arith in
         rw (places n)
         (same_written (row_at before 0) (consumer_at before n) (bytes_of 4 (v n)) (with_contracts after v n (rearranged s)) (with_contracts before v n s)
-        (rw length-bytes_of (omega (arith, inside' n few, places n, length_contracts after v (rearranged s) n (room' n least))))
-        (rw length-bytes_of (omega (arith, inside n few, length_contracts before v s n (room n least))))
+        (rw length-bytes_of (omega (arith, inside' n few, places n, length-contracts after v (rearranged s) n (room' n least))))
+        (rw length-bytes_of (omega (arith, inside n few, length-contracts before v s n (room n least))))
         (same_from n least) i b)
 
     outside : (l : Layout) → ((c : ℕ) → consumer_at l c ≡ consumer_at before c) → (n i : ℕ) → i < row_at before 0 → Outside l n i
@@ -235,7 +235,7 @@ module _ (s : List ℕ) (form : FormLimits s) (second : version s ≡ 2) where
         is_rearranged s (with_contracts before v n s) form second
         (λ i b. contracts_keep before v s n (room n few) i (outside before (λ c. refl) n i b))
         (with_contracts after v n (rearranged s))
-        (length_contracts after v (rearranged s) n (room' n few) ∙ own_long)
+        (length-contracts after v (rearranged s) n (room' n few) ∙ own_long)
         (λ i b. contracts_keep after v (rearranged s) n (room' n few) i (outside after places n i b) ∙ own_front i b)
         (same_from n few)
 

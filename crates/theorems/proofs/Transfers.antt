@@ -25,7 +25,7 @@ use Rattle.laws.proofs.Range.{sum_same}
 use Rattle.laws.proofs.Fields.{same_bytes}
 use Rattle.laws.proofs.Sheet.{consumer_inside}
 use Rattle.laws.proofs.Refusals.{first_append, first_next, sheet_numbered, sheet_clear, limits}
-use Rattle.laws.proofs.Written.{Outside, Room, length_contracts, contracts_keep, contract_read}
+use Rattle.laws.proofs.Written.{Outside, Room, length-contracts, contracts_keep, contract_read}
 use Rattle.laws.proofs.Answers as Answers
 use Rattle.laws.proofs.Transfers.{AllNamed, list_numbered, names_clear, applied_limits, after_same, turns_same, sum_after, after_within}
 use Rattle.theorems.specs.Demand3.{Worse, MoreRowsKeepAttested, WorseSheet, NoBetter}
@@ -52,7 +52,7 @@ module _ (s : List ℕ) (form : FormLimits s) (v : ℕ → ℕ) where
   room c b = omega (arith, consumer_inside (layout_of s) c b, form.length_right, form.length_told)
 
   as_long : length after ≡ length s
-  as_long = length_contracts (layout_of s) v s (header_of s).consumers room
+  as_long = length-contracts (layout_of s) v s (header_of s).consumers room
 
   kept : (i : ℕ) → Outside (layout_of s) (header_of s).consumers i → get_or after i 0 ≡ get_or s i 0
   kept i o = contracts_keep (layout_of s) v s (header_of s).consumers room i o

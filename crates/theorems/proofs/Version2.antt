@@ -12,7 +12,7 @@ use Rattle.rules.specs.Limits.{FormLimits}
 use Rattle.rules.specs.Fields.{big_endian, bytes_from, joined}
 use Rattle.rules.specs.Sheet.{length_field, version, header_of, layout_of, month_of, states_days, by_column, producer_at, producer_under, row_at, row_of, day_at, consumer_at, consumer_of, sheet_length, in_version_2}
 use Rattle.laws.proofs.Fields.{Holds, holds_left, holds_right, length-joined, held_record}
-use Rattle.laws.proofs.Sheet.{SameFields, length_from, held_from, row_width_1, row_width_2, by_hour, sheet_length_in_full, producers_le, front_same, consumer_same}
+use Rattle.laws.proofs.Sheet.{SameFields, length-from, held_from, row_width_1, row_width_2, by_hour, sheet_length_in_full, producers_le, front_same, consumer_same}
 use Rattle.theorems.specs.Alike.{SameProducer}
 use Rattle.theorems.specs.Request5.{FullRow, FullRows}
 use Rattle.theorems.proofs.Alike.{producer_same}
@@ -45,7 +45,7 @@ module _ (s : List ℕ) (form : FormLimits s) (first : version s ≡ 1) where
   consumers = bytes_from s (consumer_at l 0) (15 * (header_of s).consumers)
 
   length-row : (j : ℕ) → length (row j) ≡ 12
-  length-row j = simp (length-append, length_from s (row_at l j) 10)
+  length-row j = simp (length-append, length-from s (row_at l j) 10)
 
   length-rows : length rows ≡ 12 * (header_of s).rows
   length-rows = length-joined row 12 length-row (header_of s).rows
@@ -64,7 +64,7 @@ module _ (s : List ℕ) (form : FormLimits s) (first : version s ≡ 1) where
 
   after_producers : Holds t (row_at l 0) (rows ++ consumers)
   after_producers =
-      holds_right t 5 producers (rows ++ consumers) (omega (arith, length_from s 5 (row_at l 0 - 5), rows_from)) after_head
+      holds_right t 5 producers (rows ++ consumers) (omega (arith, length-from s 5 (row_at l 0 - 5), rows_from)) after_head
 
   producers_same : SameFields (row_at l 0 - 5) t 5 s 5
   producers_same = held_from (row_at l 0 - 5) t 5 s 5 (holds_left t 5 producers (rows ++ consumers) after_head)
@@ -96,7 +96,7 @@ module _ (s : List ℕ) (form : FormLimits s) (first : version s ≡ 1) where
   length_after : length t ≡ sheet_length l'
   unfolding in_version_2
   length_after =
-      simp (length-append, OtherVersion.length_front long 2, length_from, length-rows)
+      simp (length-append, OtherVersion.length_front long 2, length-from, length-rows)
       (omega (arith, rows_from, rows_at, rw (row_width_2 l' (omega arith)) at (sheet_length_in_full l')))
     where
       rows_at : row_at l 0 ≡ 14 + (header_of s).producers * (42 + 288 * (header_of s).days)
@@ -159,7 +159,7 @@ module _ (s : List ℕ) (form : FormLimits s) (first : version s ≡ 1) where
       field' = held_from 10 t (row_at l 0 + 12 * j) s (row_at l j) (holds_left t (row_at l 0 + 12 * j) (bytes_from s (row_at l j) 10) (1 ∷ (header_of s).days ∷ []) (row_held j b))
 
       days : Holds t (row_at l 0 + 12 * j + 10) (1 ∷ (header_of s).days ∷ [])
-      days = holds_right t (row_at l 0 + 12 * j) (bytes_from s (row_at l j) 10) (1 ∷ (header_of s).days ∷ []) (omega (arith, length_from s (row_at l j) 10)) (row_held j b)
+      days = holds_right t (row_at l 0 + 12 * j) (bytes_from s (row_at l j) 10) (1 ∷ (header_of s).days ∷ []) (omega (arith, length-from s (row_at l j) 10)) (row_held j b)
 
       stated : (k d : ℕ) → k < 2 → day_at l' t (row_at l 0 + 12 * j + (10 + k)) d ≡ get_or (1 ∷ (header_of s).days ∷ []) k 0
       stated k d q =

@@ -17,7 +17,7 @@ use Rattle.rules.specs.Sheet.{length_field, version, header_of, layout_of, month
 use Rattle.rules.specs.Outcome.{Stretch, hours_stretch}
 use Rattle.laws.proofs.Refusals.{form_clear}
 use Rattle.laws.proofs.Fields.{Holds, holds_left, holds_right, length-joined, held_record}
-use Rattle.laws.proofs.Sheet.{SameFields, length_from, held_from, row_width_2, by_column_means, sheet_length_in_full, row_inside, consumer_inside, producers_le, front_same, row_same, consumer_same}
+use Rattle.laws.proofs.Sheet.{SameFields, length-from, held_from, row_width_2, by_column_means, sheet_length_in_full, row_inside, consumer_inside, producers_le, front_same, row_same, consumer_same}
 use Rattle.theorems.specs.Alike.{SameProducer, Alike}
 use Rattle.theorems.proofs.Alike.{producer_alike}
 use Rattle.theorems.proofs.OtherVersion as OtherVersion
@@ -29,13 +29,13 @@ module _ (s : List ℕ) (at : ℕ) (x : Series) where
 
   pub length-column : (n : ℕ) → length (column s at n x) ≡ 4 * n
   unfolding column
-  length-column n = length-joined powers 4 (λ i. length_from s (power_at at x i) 4) n
+  length-column n = length-joined powers 4 (λ i. length-from s (power_at at x i) 4) n
 
   pub column_read : (t : List ℕ) (to n : ℕ) → Holds t to (column s at n x) → (i : ℕ) → i < n → big_endian 4 t (to + 4 * i) ≡ power s at x i
   unfolding column power
   column_read t to n h i b =
       front_same t (to + 4 * i) s (power_at at x i) 4 (omega arith)
-      (held_from 4 t (to + 4 * i) s (power_at at x i) (held_record powers 4 (λ i. length_from s (power_at at x i) 4) t to n h i b))
+      (held_from 4 t (to + 4 * i) s (power_at at x i) (held_record powers 4 (λ i. length-from s (power_at at x i) 4) t to n h i b))
 
 module _ (s : List ℕ) (form : FormLimits s) (second : version s ≡ 2) where
   abbrev h : Header
@@ -74,7 +74,7 @@ module _ (s : List ℕ) (form : FormLimits s) (second : version s ≡ 2) where
 
   length_producer : (p : ℕ) → length (in_columns l s p) ≡ 42 + 288 * h.days
   unfolding in_columns
-  length_producer p = simp (length-append, length_from, length-column) (omega arith)
+  length_producer p = simp (length-append, length-from, length-column) (omega arith)
 
   pub length-producers : length producers ≡ (42 + 288 * h.days) * h.producers
   length-producers = length-joined (in_columns l s) (42 + 288 * h.days) length_producer h.producers
@@ -83,7 +83,7 @@ module _ (s : List ℕ) (form : FormLimits s) (second : version s ≡ 2) where
   unfolding rearranged
   length_after =
       rw second
-      (simp (length-append, OtherVersion.length_front (length_field s) 3, length_from, length-producers)
+      (simp (length-append, OtherVersion.length_front (length_field s) 3, length-from, length-producers)
       (omega (arith, rows_inside, rows_at, mul_comm h.producers (42 + 288 * h.days))))
 
   -- Where they stand.
@@ -98,7 +98,7 @@ module _ (s : List ℕ) (form : FormLimits s) (second : version s ≡ 2) where
   month_same = held_from 9 t 5 s 5 (holds_left t 5 (bytes_from s 5 9) (producers ++ behind) after_front)
 
   after_header : Holds t 14 (producers ++ behind)
-  after_header = holds_right t 5 (bytes_from s 5 9) (producers ++ behind) (omega (arith, length_from s 5 9)) after_front
+  after_header = holds_right t 5 (bytes_from s 5 9) (producers ++ behind) (omega (arith, length-from s 5 9)) after_front
 
   behind_same : SameFields (sheet_length l - row_at l 0) t (row_at l 0) s (row_at l 0)
   behind_same =
@@ -162,7 +162,7 @@ module _ (s : List ℕ) (form : FormLimits s) (second : version s ≡ 2) where
 
     from_working : Holds t (hours_at l p + 0) (working ++ (possible ++ outside))
     from_working =
-        holds_right t (producer_at l p) stated (working ++ (possible ++ outside)) (unfold hours_at in omega (arith, length_from s (producer_at l p) 42)) from_stated
+        holds_right t (producer_at l p) stated (working ++ (possible ++ outside)) (unfold hours_at in omega (arith, length-from s (producer_at l p) 42)) from_stated
 
     from_possible : Holds t (hours_at l p + 96 * h.days) (possible ++ outside)
     from_possible =

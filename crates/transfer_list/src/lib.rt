@@ -1,4 +1,5 @@
 // The list of transfers: its entries, and numbers 13 and 14.
+#![tactic(auto)]
 ghost use Rattle.std.specs.Prelude.{◌≡◌};
 ghost use Rattle.rules.specs.TransferList.{entries, entry};
 ghost use Rattle.rules.specs.Transfers.{bad_entry, bad_front, late, list_tests};
@@ -60,7 +61,7 @@ fn filed_late(t: Transfer) -> bool
 }
 
 // What is wrong with some entry: numbers 13, 14.
-#[derive(Drop)]
+#[derive(Clone, Copy)]
 struct EntryTests {
     bad: bool,
     late: bool,

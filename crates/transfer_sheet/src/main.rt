@@ -1,5 +1,6 @@
 // Reads a sheet from standard input and a list of transfers from file descriptor 3, each at most 65,536 bytes. Prints the sheet afterwards,
 // byte for byte; of a refusal the line that a listing has, N and its number.
+#![tactic(auto)]
 use changed_sheet::print_after;
 use libc::STDIN_FILENO;
 use transfers::transfer;

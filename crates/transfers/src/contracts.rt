@@ -11,7 +11,7 @@ use units::Tenths;
 use writing::put_word;
 
 // The contract volumes of 32 consumers; 0 for those that the sheet does not have.
-#[derive(Drop)]
+#[derive(Clone, Copy)]
 pub struct Volumes {
     pub of: [Tenths; 32],
 }

@@ -1,4 +1,5 @@
 // Transfers of contract volume between consumers: every sheet and every list is answered.
+#![tactic(auto)]
 ghost use Rattle.std.specs.Prelude.{◌≡◌};
 ghost use Rattle.rules.specs.Transfers.{transfer_outcome, transferred};
 ghost use Rattle.rules.specs.Said.{said};
@@ -17,7 +18,7 @@ use turns::after_entries;
 // Applies a list of transfers to the contract volumes of a sheet, in the list's order. A refusal changes no byte: every number is decided
 // before the first byte is written. Where the list is applied the count is 0.
 pub fn transfer(sheet: &mut [u8], list: &[u8]) -> Answer
-    ensures result_value { said result ≡ transfer_outcome sheet.old list.now }
+    ensures answer { said result ≡ transfer_outcome sheet.old list.now }
     ensures sheet { sheet.new ≡ transferred sheet.old list.now }
 {
     let own = sheet_refusal(sheet);

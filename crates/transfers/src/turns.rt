@@ -14,7 +14,7 @@ use transfer_list::{entry, entry_count};
 use units::Tenths;
 
 // The contract volumes after all entries, and whether one of them could not be met.
-#[derive(Drop)]
+#[derive(Clone, Copy)]
 pub struct Turns {
     pub volumes: Volumes,
     pub unmet: bool,
@@ -30,7 +30,7 @@ fn overdrawn(giver: Tenths, taker: Tenths, amount: Tenths) -> bool
 // The entries in their order, from the contract volumes that a sheet has. The first that cannot be met ends it.
 pub(crate) fn after_entries(start: Volumes, list: &[u8]) -> Turns
     requires { Within start × AllNamed 32 list.now }
-    ensures unmet_value { result.unmet ≡ any (overdrawn_at (read start) list.now) (entries list.now) }
+    ensures unmet { result.unmet ≡ any (overdrawn_at (read start) list.now) (entries list.now) }
     ensures volumes { result.unmet ≡ false → Agrees 32 (tenths 0) (λ c. tenths (after_entries (read start) list.now (entries list.now) c)) result.volumes.of }
 {
     let mut volumes = start;

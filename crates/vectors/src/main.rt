@@ -1,5 +1,6 @@
 // Settles the stored sheets and compares every answer and every byte with what the rival program answered.
 // A file holds the cases of one kind; a line with the kind and its count of cases is printed where all of them agree.
+#![tactic(auto)]
 use fields::{byte, word};
 use libc::STDOUT_FILENO;
 use rules::Answer;
@@ -8,7 +9,7 @@ use text2015::settle_2015;
 
 // What stands before a case's sheet: the sheet's length, the result buffer's length, and the rival's answer, which is a refusal's number
 // or the count of the bytes that follow the sheet. And whether it is to be settled under the text of 2015.
-#[derive(Drop)]
+#[derive(Clone, Copy)]
 struct Case {
     length: usize,
     room: usize,
@@ -17,7 +18,7 @@ struct Case {
     old: bool,
 }
 
-#[derive(Drop)]
+#[derive(Clone, Copy)]
 enum Compared {
     Alike,
     Different,
@@ -117,7 +118,7 @@ fn compare(file: i32, old: bool) -> Compared {
 }
 
 // How many cases of a file agree, and whether those were all.
-#[derive(Drop)]
+#[derive(Clone, Copy)]
 struct Tally {
     count: u64,
     all: bool,

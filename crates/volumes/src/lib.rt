@@ -1,4 +1,5 @@
 // What the rows of a sheet add up to for each producer, and how many it has.
+#![tactic(auto)]
 ghost use Rattle.std.specs.Prelude.{◌≡◌, ℕ, ◌<◌, get_or};
 ghost use Rattle.rules.specs.Range.{listed};
 ghost use Rattle.volumes.specs.Volumes.{Fits, volumes_in, no_volumes, with_row};
@@ -9,7 +10,7 @@ use sheet::row;
 use units::Tenths;
 
 // The volumes of a producer's support rows (T) and bilateral rows (B), and how many rows it has.
-#[derive(Drop)]
+#[derive(Clone, Copy)]
 pub struct Volumes {
     pub support: Tenths,
     pub bilateral: Tenths,
@@ -17,7 +18,7 @@ pub struct Volumes {
 }
 
 // The volumes of six producers, as many as a sheet may have.
-#[derive(Drop)]
+#[derive(Clone, Copy)]
 pub struct AllVolumes {
     pub of: [Volumes; 6],
 }
@@ -48,7 +49,7 @@ fn with_row(v: Volumes, r: Row) -> Volumes
 
 // T, B and the rows of six producers. A row of another producer counts for none, and no row where the sheet ends too soon.
 pub fn row_volumes(s: &[u8], layout: Layout) -> AllVolumes
-    ensures of_value { result.of ≡ listed (volumes_in layout s.now) 6 }
+    ensures volumes { result.of ≡ listed (volumes_in layout s.now) 6 }
     ensures fits { (p : ℕ) → p < 6 → Fits (get_or result.of p no_volumes) }
 {
     let none = Volumes {

@@ -9,7 +9,7 @@ use Rattle.rules.specs.Result2015.{record_2015}
 use Rattle.laws.proofs.Fields.{length-joined}
 use Rattle.laws.proofs.Text2015.{length-record_2015}
 use Rattle.sheet.proofs.Whole.{consumer_there}
-use Rattle.writing.proofs.Lent.{over_none, length_over, next_record}
+use Rattle.writing.proofs.Lent.{over_none, length-over, next_record}
 use Rattle.text2015.specs.Lines.{line_of}
 use Rattle.text2015.proofs.Parts.{line_record}
 use borrow.Author.Rules.{rules}
@@ -87,7 +87,7 @@ loop-again c =
     let next =
     next_record 17 l.c (record_2015 m) _ _ (length-record_2015 m) (omega (arith, lt, a.pre.1)) l.invariant.0 (line_record m l.c f) c.before.before.write-line.ensures in (
       next,
-      ap length next ∙ length_over (joined (record_2015 m) (l.c + 1)) a.args.out.now (rw (length-joined (record_2015 m) 17 (length-record_2015 m)) (omega (arith, lt, a.pre.1))),
+      ap length next ∙ length-over (joined (record_2015 m) (l.c + 1)) a.args.out.now (rw (length-joined (record_2015 m) 17 (length-record_2015 m)) (omega (arith, lt, a.pre.1))),
       omega (arith, lt),
     )
 
