@@ -1,5 +1,6 @@
 // The band tables, and the parts of a reference that they are read by.
 #![tactic(auto)]
+
 ghost use Rattle.std.specs.Prelude.{◌≡◌};
 ghost use Rattle.rules.specs.Bands.{parts_of, factor_of, band_of};
 ghost use Rattle.rules.specs.Text2015.{bands_2015};

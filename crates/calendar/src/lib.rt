@@ -1,5 +1,6 @@
 // The month's calendar: holidays and control days. Days are counted from 0.
 #![tactic(auto)]
+
 ghost use Rattle.std.specs.Prelude.{◌≡◌, ℕ, ◌/◌, ◌^◌, ltb};
 ghost use Rattle.rules.specs.ControlTable.{table_day, in_table};
 ghost use Rattle.calendar.specs.Days.{day_on};

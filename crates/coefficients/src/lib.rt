@@ -1,5 +1,6 @@
 // The coefficients of missing hours, on plain numbers.
 #![tactic(auto)]
+
 ghost use Rattle.std.specs.Prelude.{◌≡◌, ◌-◌, max};
 ghost use Rattle.rules.specs.Coefficients.{share};
 

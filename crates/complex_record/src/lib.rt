@@ -1,5 +1,6 @@
 // The record of an industrial complex: its figures, its net power on average, and numbers 16 and 17.
 #![tactic(auto)]
+
 ghost use Rattle.std.specs.Prelude.{◌≡◌};
 ghost use Rattle.rules.specs.ComplexRecord.{complex, imported};
 ghost use Rattle.rules.specs.Averaging.{bad_record, record_tests};

@@ -1,6 +1,7 @@
 // Big-endian fields, read at any place of a slice; and four bytes as the machine's word has them.
 #![tactic(auto)]
-ghost use Rattle.std.specs.Prelude.{◌≡◌, ◌+◌, ◌*◌, ◌≤◌};
+
+ghost use Rattle.std.specs.Prelude.{◌≡◌, ◌+◌, ◌*◌, ◌/◌, ◌%◌, ◌≤◌};
 ghost use Rattle.rules.specs.Fields.{big_endian};
 
 // The byte at a place; 0 past the end.
@@ -10,12 +11,20 @@ pub fn byte(s: &[u8], at: usize) -> u8
     if at < s.len() { s[at] } else { 0 }
 }
 
-// The number in two bytes; a byte past the end counts as 0.
+// A number with its two bytes exchanged.
+fn turned(v: u16) -> u16
+    ensures { result ≡ v % 256 * 256 + v / 256 }
+{
+    v % 256 * 256 + v / 256
+}
+
+// The number in two bytes; a byte past the end counts as 0. The second byte is read as the upper one, then they are turned: so the compiler reads
+// a producer's record with no place below the stack pointer (docs/DECISIONS.md, Requests, 3).
 pub fn half(s: &[u8], at: usize) -> u16
     ensures { result ≡ big_endian 2 s.now at }
 {
     if at < s.len() {
-        byte(s, at) as u16 * 256 + byte(s, at + 1) as u16
+        turned(byte(s, at) as u16 + byte(s, at + 1) as u16 * 256)
     } else {
         0
     }

@@ -1,5 +1,6 @@
 // Over the hours of a month, from a lent part with series of hourly powers: number 9, k4's sums, and the control average.
 #![tactic(auto)]
+
 mod control;
 mod figures;
 mod k4;

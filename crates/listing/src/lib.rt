@@ -1,5 +1,6 @@
 // The listing: a settlement's figures as lines of text, read back from the result's bytes; and that under the text of 2015.
 #![tactic(auto)]
+
 ghost use Rattle.std.specs.Prelude.{◌≡◌, ◌≤◌};
 ghost use Rattle.rules.specs.Outcome.{outcome};
 ghost use Rattle.rules.specs.Said.{said};
@@ -9,10 +10,10 @@ use rules::Answer;
 use settlement::settle;
 use sheet::header;
 
-mod line;
+mod decimals;
 mod text_2015;
 
-use line::Line;
+use decimals::{Money, Tenths};
 pub use text_2015::list_2015;
 
 // Where the record after so many rows and consumers begins.
@@ -29,79 +30,80 @@ pub(crate) fn long(s: &[u8], at: usize) -> u64
     (word(s, at) as u64) * 4294967296 + (word(s, at + 4) as u64)
 }
 
-// Row j: its number, volume after the cut, actual volume, payment.
-fn print_row(res: &[u8], j: u8) {
-    let at = record_at(j, 0);
-    Line::begun(b'R')
-        .whole(j as u64)
-        .tenths(word(res, at) as u64)
-        .tenths(word(res, at + 4) as u64)
-        .money(long(res, at + 8))
-        .print();
+// The tenths in four bytes.
+fn short_tenths(s: &[u8], at: usize) -> Tenths {
+    Tenths(word(s, at) as u64)
 }
 
-fn print_rows(res: &[u8], rows: u8) {
-    let mut j: u8 = 0;
-    while j < rows {
-        print_row(res, j);
-        j += 1;
+// Row j: its number, volume after the cut, actual volume, payment.
+fn print_row(rt: &impl Print, res: &[u8], j: u8) {
+    let at = record_at(j, 0);
+    let after_cut = short_tenths(res, at);
+    let actual = short_tenths(res, at + 4);
+    let payment = Money(long(res, at + 8));
+    let _ = println!(rt; "R{j} {after_cut} {actual} {payment}");
+}
+
+fn print_rows(rt: &impl Print, res: &[u8], rows: u8) {
+    for j in 0..rows {
+        print_row(rt, res, j);
     }
 }
 
 // Consumer c: its number, credit, percent, n, actual volume, charge.
-fn print_consumer(res: &[u8], rows: u8, c: u8) {
+fn print_consumer(rt: &impl Print, res: &[u8], rows: u8, c: u8) {
     let at = record_at(rows, c);
-    Line::begun(b'C')
-        .whole(c as u64)
-        .tenths(word(res, at) as u64)
-        .tenths(word(res, at + 4) as u64)
-        .tenths(byte(res, at + 8) as u64)
-        .tenths(long(res, at + 9))
-        .money(long(res, at + 17))
-        .print();
+    let credit = short_tenths(res, at);
+    let percent = short_tenths(res, at + 4);
+    let n = Tenths(byte(res, at + 8) as u64);
+    let actual = Tenths(long(res, at + 9));
+    let charge = Money(long(res, at + 17));
+    let _ = println!(rt; "C{c} {credit} {percent} {n} {actual} {charge}");
 }
 
-fn print_consumers(res: &[u8], rows: u8, consumers: u8) {
-    let mut c: u8 = 0;
-    while c < consumers {
-        print_consumer(res, rows, c);
-        c += 1;
+fn print_consumers(rt: &impl Print, res: &[u8], rows: u8, consumers: u8) {
+    for c in 0..consumers {
+        print_consumer(rt, res, rows, c);
     }
 }
 
 // The totals: paid, charged.
-fn print_totals(res: &[u8], rows: u8, consumers: u8) {
+fn print_totals(rt: &impl Print, res: &[u8], rows: u8, consumers: u8) {
     let at = record_at(rows, consumers);
-    Line::begun(b'T')
-        .money(long(res, at))
-        .money(long(res, at + 8))
-        .print();
+    let paid = Money(long(res, at));
+    let charged = Money(long(res, at + 8));
+    let _ = println!(rt; "T {paid} {charged}");
 }
 
 // The figures of a sheet with so many rows and consumers.
-fn print_figures(res: &[u8], rows: u8, consumers: u8) {
-    print_rows(res, rows);
-    print_consumers(res, rows, consumers);
-    print_totals(res, rows, consumers);
+fn print_figures(rt: &impl Print, res: &[u8], rows: u8, consumers: u8) {
+    print_rows(rt, res, rows);
+    print_consumers(rt, res, rows, consumers);
+    print_totals(rt, res, rows, consumers);
+}
+
+// The number of a refusal.
+pub(crate) fn print_refusal(rt: &impl Print, number: u8) {
+    let _ = println!(rt; "N{number}");
 }
 
 // What was answered: the figures, or the number of the refusal.
-fn print_answer(sheet: &[u8], res: &[u8], answer: Answer) {
+fn print_answer(rt: &impl Print, sheet: &[u8], res: &[u8], answer: Answer) {
     match answer {
-        Answer::Refused(number) => Line::begun(b'N').whole(number as u64).print(),
+        Answer::Refused(number) => print_refusal(rt, number),
         Answer::Written(_) => {
             let h = header(sheet);
-            print_figures(res, h.rows, h.consumers);
+            print_figures(rt, res, h.rows, h.consumers);
         }
     }
 }
 
 // Settles a sheet and prints its listing on standard output. The answer is the settlement's.
-pub fn list(sheet: &[u8]) -> Answer
+pub fn list(rt: &impl Print, sheet: &[u8]) -> Answer
     ensures { said result ≡ outcome sheet.now 1333 }
 {
     let mut result = [0u8; 1333];
     let answer = settle(sheet, &mut result);
-    print_answer(sheet, &result, answer);
+    print_answer(rt, sheet, &result, answer);
     answer
 }

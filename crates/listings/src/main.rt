@@ -1,30 +1,35 @@
 // Prints the listings of the stored sheets, one after the other.
 #![tactic(auto)]
 
+use reading::read_full;
+use std::fs;
+use std::rt::Files;
+
 // The listing of the sheet in a file.
-fn list_file(name: &[u8]) {
-    let file = os::open_read(name);
-    if file < 0 {
-        os::fail(name);
-        return;
+fn list_file(rt: &(impl Files + Print), name: &str) {
+    match fs::open(rt, name) {
+        Ok(mut file) => {
+            let mut sheet = [0u8; 65536];
+            let length = read_full(&mut file, &mut sheet);
+            listing::list(rt, &sheet[..length]);
+        }
+        Err(error) => {
+            let _ = eprintln!(rt; "{name}: {error}");
+        }
     }
-    let mut sheet = io::large_buffer();
-    let length = io::read_full(file, &mut sheet);
-    libc::close(file);
-    listing::list(&sheet[..length]);
 }
 
-fn main() {
-    list_file(b"month");
-    list_file(b"inside_month");
-    list_file(b"small_deductible");
-    list_file(b"columns");
-    list_file(b"zeros");
-    list_file(b"largest");
-    list_file(b"header");
-    list_file(b"refused_1");
-    list_file(b"refused_2");
-    list_file(b"refused_9");
-    list_file(b"refused_12");
-    list_file(b"refused_18");
+fn main(rt: HostRuntime) {
+    list_file(&rt, "month");
+    list_file(&rt, "inside_month");
+    list_file(&rt, "small_deductible");
+    list_file(&rt, "columns");
+    list_file(&rt, "zeros");
+    list_file(&rt, "largest");
+    list_file(&rt, "header");
+    list_file(&rt, "refused_1");
+    list_file(&rt, "refused_2");
+    list_file(&rt, "refused_9");
+    list_file(&rt, "refused_12");
+    list_file(&rt, "refused_18");
 }

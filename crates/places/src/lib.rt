@@ -1,5 +1,6 @@
 // Where the records of a sheet stand, and how long the sheet and its result are. No other crate asks for the version.
 #![tactic(auto)]
+
 ghost use Rattle.std.specs.Prelude.{◌≡◌, ◌≤◌};
 ghost use Rattle.rules.specs.Sheet.{hours_width, producer_at, hours_at, by_column, triples, columns, hour_series, states_days, row_width, row_at, consumer_at, contract_at, peak_at, sheet_length};
 ghost use Rattle.rules.specs.Result.{result_length};

@@ -1,5 +1,6 @@
 // What a producer's rows are settled by: its excess and what they are multiplied by, from any bytes under any header.
 #![tactic(auto)]
+
 mod cut;
 mod k1;
 

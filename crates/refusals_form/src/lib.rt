@@ -1,5 +1,6 @@
 // Numbers 1 to 7: the sheet's form and the result buffer's room; and a producer's hours, which are handed back where 1 to 6 pass.
 #![tactic(auto)]
+
 ghost use Rattle.std.specs.Prelude.{◌≡◌, cond};
 ghost use Rattle.rules.specs.Refusals.{bad_version, bad_month, too_many, front_tests, header_tests, form_tests, room_tests, first_of};
 

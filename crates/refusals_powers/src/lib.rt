@@ -4,6 +4,7 @@
 // power leaves its marks, and the marks of all are tested once. Where all blocks are passed, those after the last are passed in the same way, or
 // tried one by one.
 #![tactic(auto)]
+
 ghost use Rattle.std.specs.Prelude.{◌≡◌, false, ◌||◌, ◌+◌, ◌-◌, ◌*◌, ◌/◌, ◌^◌, ◌<◌, ◌≤◌, length};
 ghost use Rattle.rules.specs.Range.{any};
 ghost use Rattle.rules.specs.Fields.{big_endian};

@@ -1,5 +1,6 @@
 // The limits that one figure, producer, row or consumer keeps to: numbers 8 to 12 and 18, each of one record.
 #![tactic(auto)]
+
 ghost use Rattle.std.specs.Prelude.{◌≡◌, ltb};
 ghost use Rattle.rules.specs.Units.{one};
 ghost use Rattle.rules.specs.Refusals.{bad_share, too_high, high_consumer, bad_reference, too_dear, bad_factor, bad_days};

@@ -1,6 +1,7 @@
 // The numbers of a whole sheet: all but 7, all with a result's room, and those from 4 on of a month under a layout, apart from its hours.
 // Each record is read once.
 #![tactic(auto)]
+
 ghost use Rattle.std.specs.Prelude.{◌≡◌, ◌≤◌, length};
 ghost use Rattle.rules.specs.Sheet.{sheet_length, month_under};
 ghost use Rattle.rules.specs.Refusals.{figure_tests, sheet_tests, tests_for, first_of};

@@ -1,9 +1,10 @@
 // Reads a sheet from standard input, at most 65,536 bytes, and prints its listing.
 #![tactic(auto)]
-use libc::STDIN_FILENO;
 
-fn main() {
-    let mut sheet = io::large_buffer();
-    let length = io::read_full(STDIN_FILENO, &mut sheet);
-    listing::list(&sheet[..length]);
+use reading::read_full;
+
+fn main(rt: HostRuntime) {
+    let mut sheet = [0u8; 65536];
+    let length = read_full(&mut rt.stdin(), &mut sheet);
+    listing::list(&rt, &sheet[..length]);
 }

@@ -1,90 +1,76 @@
 // Prints the seven months of the table of control weekdays as printed calendars have them: a line of weekdays, weeks in lines, and a mark
 // before each day of which the table says yes. It reads the lines that the settlement reads.
 #![tactic(auto)]
+
 ghost use Rattle.std.specs.Prelude.{◌≤◌};
 
 use calendar::table::{Line, YES, line_of};
-use libc::STDOUT_FILENO;
 
-fn print(text: &[u8]) {
-    io::write_all(STDOUT_FILENO, text);
-}
-
-fn end_line() {
-    print(b"\n");
+fn end_line(rt: &impl Print) {
+    let _ = println!(rt);
 }
 
 // A day in four characters, with a mark if it is a control weekday.
-fn cell(day: u8, marked: bool) -> [u8; 4] {
-    let mark = if marked { b'*' } else { b' ' };
+fn print_day(rt: &impl Print, day: u8, marked: bool) {
+    let mark = if marked { '*' } else { ' ' };
     if day < 10 {
-        [b' ', b' ', mark, b'0' + day]
+        let _ = print!(rt; "  {mark}{day}");
     } else {
-        [b' ', mark, b'0' + day / 10, b'0' + day % 10]
+        let _ = print!(rt; " {mark}{day}");
     }
 }
 
-fn print_day(day: u8, marked: bool) {
-    let text = cell(day, marked);
-    print(&text);
-}
-
-fn print_blank() {
-    print(b"    ");
+fn print_blank(rt: &impl Print) {
+    let _ = print!(rt; "    ");
 }
 
 // Under the weekdays before the month's first day.
-fn print_blanks(count: u8) {
-    let mut i: u8 = 0;
-    while i < count {
-        print_blank();
-        i += 1;
+fn print_blanks(rt: &impl Print, count: u8) {
+    for _ in 0..count {
+        print_blank(rt);
     }
 }
 
 // The column of the next day: after Sunday's a line ends.
-fn next_column(column: u8) -> u8 {
+fn next_column(rt: &impl Print, column: u8) -> u8 {
     if column < 6 {
         return column + 1;
     }
-    end_line();
+    end_line(rt);
     0
 }
 
 // The weeks of a month whose first day stands in column begin, Monday's being 0; line has its entries.
-fn print_weeks(begin: u8, line: Line) {
+fn print_weeks(rt: &impl Print, begin: u8, line: Line) {
     let mut column = begin;
-    let mut day: u8 = 0;
-    while day < 31 {
-        print_day(day + 1, line[day as usize] == YES);
-        column = next_column(column);
-        day += 1;
+    for day in 0..31u8 {
+        print_day(rt, day + 1, line[day as usize] == YES);
+        column = next_column(rt, column);
     }
     if 0 < column {
-        end_line();
+        end_line(rt);
     }
 }
 
 // A month that begins on a weekday, Monday 1 to Sunday 7, with its name.
-fn print_month(first: u8, name: &[u8])
+fn print_month(rt: &impl Print, first: u8, name: &str)
     requires { 1 ≤ first }
 {
-    print(b"\nA month that begins on ");
-    print(name);
-    print(b"\n  Mo  Tu  We  Th  Fr  Sa  Su\n");
-    print_blanks(first - 1);
-    print_weeks(first - 1, line_of(first));
+    let _ = println!(rt; "\nA month that begins on {name}");
+    let _ = println!(rt; "  Mo  Tu  We  Th  Fr  Sa  Su");
+    print_blanks(rt, first - 1);
+    print_weeks(rt, first - 1, line_of(first));
 }
 
-fn main() {
-    print(
-        b"The table of control weekdays: * marks Monday to Friday. Holidays stand in a sheet, not here.\n",
+fn main(rt: HostRuntime) {
+    let _ = println!(rt;
+        "The table of control weekdays: * marks Monday to Friday. Holidays stand in a sheet, not here."
     );
-    print_month(1, b"Monday");
-    print_month(2, b"Tuesday");
-    print_month(3, b"Wednesday");
-    print_month(4, b"Thursday");
-    print_month(5, b"Friday");
-    print_month(6, b"Saturday");
-    print_month(7, b"Sunday");
+    print_month(&rt, 1, "Monday");
+    print_month(&rt, 2, "Tuesday");
+    print_month(&rt, 3, "Wednesday");
+    print_month(&rt, 4, "Thursday");
+    print_month(&rt, 5, "Friday");
+    print_month(&rt, 6, "Saturday");
+    print_month(&rt, 7, "Sunday");
 }

@@ -1,6 +1,7 @@
 // What a sheet says in its version, its header, its producers, its rows and its consumers. A record that is not whole in the sheet reads as
 // nothing.
 #![tactic(auto)]
+
 ghost use Rattle.std.specs.Prelude.{◌≡◌, ◌+◌, length};
 ghost use Rattle.rules.specs.Sheet.{header_of, layout_of, day_at};
 ghost use Rattle.rules.specs.Outcome.{within};

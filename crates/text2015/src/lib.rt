@@ -1,5 +1,6 @@
 // Consumers under the text of 2015, for old acts: every sheet and every result buffer is answered.
 #![tactic(auto)]
+
 ghost use Rattle.std.specs.Prelude.{◌≡◌, length};
 ghost use Rattle.rules.specs.Outcome2015.{outcome_2015, buffer_after_2015};
 ghost use Rattle.rules.specs.Result2015.{length_2015};

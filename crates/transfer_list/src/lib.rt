@@ -1,5 +1,6 @@
 // The list of transfers: its entries, and numbers 13 and 14.
 #![tactic(auto)]
+
 ghost use Rattle.std.specs.Prelude.{◌≡◌};
 ghost use Rattle.rules.specs.TransferList.{entries, entry};
 ghost use Rattle.rules.specs.Transfers.{bad_entry, bad_front, late, list_tests};

@@ -1,5 +1,6 @@
 // Transfers of contract volume between consumers: every sheet and every list is answered.
 #![tactic(auto)]
+
 ghost use Rattle.std.specs.Prelude.{◌≡◌};
 ghost use Rattle.rules.specs.Transfers.{transfer_outcome, transferred};
 ghost use Rattle.rules.specs.Said.{said};

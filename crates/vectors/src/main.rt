@@ -1,10 +1,14 @@
 // Settles the stored sheets and compares every answer and every byte with what the rival program answered.
 // A file holds the cases of one kind; a line with the kind and its count of cases is printed where all of them agree.
 #![tactic(auto)]
+
 use fields::{byte, word};
-use libc::STDOUT_FILENO;
+use reading::read_full;
 use rules::Answer;
 use settlement::settle;
+use std::fs;
+use std::io::Read;
+use std::rt::Files;
 use text2015::settle_2015;
 
 // What stands before a case's sheet: the sheet's length, the result buffer's length, and the rival's answer, which is a refusal's number
@@ -66,8 +70,8 @@ fn settles(sheet: &[u8], told: &[u8], c: Case, res: &mut [u8], kept: &[u8]) -> b
     if kept.len() < count {
         return false;
     }
-    let written = check::same(&res[..count], told);
-    let past = check::same(&res[count..], &kept[count..]);
+    let written = &res[..count] == told;
+    let past = &res[count..] == &kept[count..];
     same_answer(answer, c) & (written & past)
 }
 
@@ -84,9 +88,9 @@ fn twice(sheet: &[u8], told: &[u8], c: Case) -> bool {
 }
 
 // The next case of a file, read into two buffers.
-fn compare_by(file: i32, old: bool, sheet: &mut [u8], told: &mut [u8]) -> Compared {
+fn compare_by<R: Read>(file: &mut R, old: bool, sheet: &mut [u8], told: &mut [u8]) -> Compared {
     let mut front = [0u8; 13];
-    if io::read_full(file, &mut front) < 13 {
+    if read_full(file, &mut front) < 13 {
         return Compared::NoMore;
     }
     let c = case_of(&front, old);
@@ -98,8 +102,8 @@ fn compare_by(file: i32, old: bool, sheet: &mut [u8], told: &mut [u8]) -> Compar
     if told.len() < count {
         return Compared::Different;
     }
-    let read = io::read_full(file, &mut sheet[..length]);
-    let answered = io::read_full(file, &mut told[..count]);
+    let read = read_full(file, &mut sheet[..length]);
+    let answered = read_full(file, &mut told[..count]);
     if (read != length) | (answered != count) {
         return Compared::Different;
     }
@@ -111,8 +115,8 @@ fn compare_by(file: i32, old: bool, sheet: &mut [u8], told: &mut [u8]) -> Compar
 }
 
 // The next case of a file.
-fn compare(file: i32, old: bool) -> Compared {
-    let mut sheet = io::large_buffer();
+fn compare<R: Read>(file: &mut R, old: bool) -> Compared {
+    let mut sheet = [0u8; 65536];
     let mut told = [0u8; 2000];
     compare_by(file, old, &mut sheet, &mut told)
 }
@@ -124,7 +128,7 @@ struct Tally {
     all: bool,
 }
 
-fn tally_of(file: i32, old: bool) -> Tally {
+fn tally_of<R: Read>(file: &mut R, old: bool) -> Tally {
     let mut n: u64 = 0;
     while n < 10000 {
         let seen = compare(file, old);
@@ -146,91 +150,87 @@ fn tally_of(file: i32, old: bool) -> Tally {
     }
 }
 
-fn print(text: &[u8]) {
-    io::write_all(STDOUT_FILENO, text);
-}
-
 // The cases of one kind: the kind and their count, or the number of the first that differs.
-fn kind_under(old: bool, name: &[u8]) {
-    let file = os::open_read(name);
-    if file < 0 {
-        os::fail(name);
-        return;
+fn kind_under(rt: &(impl Files + Print), old: bool, name: &str) {
+    match fs::open(rt, name) {
+        Ok(mut file) => {
+            let seen = tally_of(&mut file, old);
+            let count = seen.count;
+            if seen.all {
+                let _ = println!(rt; "{name} {count}");
+            } else {
+                let _ = println!(rt; "{name} DIFFERS at case {count}");
+            }
+        }
+        Err(error) => {
+            let _ = eprintln!(rt; "{name}: {error}");
+        }
     }
-    let seen = tally_of(file, old);
-    libc::close(file);
-    print(name);
-    if !seen.all {
-        print(b" DIFFERS at case");
-    }
-    print(b" ");
-    io::print_decimal(STDOUT_FILENO, seen.count);
-    print(b"\n");
 }
 
-fn kind(name: &[u8]) {
-    kind_under(false, name);
+fn kind(rt: &(impl Files + Print), name: &str) {
+    kind_under(rt, false, name);
 }
 
 // Document 01's own months, and the slips.
-fn papers() {
-    kind(b"checked_months");
-    kind(b"slips");
+fn papers(rt: &(impl Files + Print)) {
+    kind(rt, "checked_months");
+    kind(rt, "slips");
 }
 
 // The refusals.
-fn first_refusals() {
-    kind(b"refusal_1");
-    kind(b"refusal_2");
-    kind(b"refusal_3");
-    kind(b"refusal_4");
-    kind(b"refusal_5");
-    kind(b"refusal_6");
+fn first_refusals(rt: &(impl Files + Print)) {
+    kind(rt, "refusal_1");
+    kind(rt, "refusal_2");
+    kind(rt, "refusal_3");
+    kind(rt, "refusal_4");
+    kind(rt, "refusal_5");
+    kind(rt, "refusal_6");
 }
 
 // More refusals, and sheets that break several rules.
-fn last_refusals() {
-    kind(b"refusal_7");
-    kind(b"refusal_8");
-    kind(b"refusal_9");
-    kind(b"refusal_10");
-    kind(b"refusal_11");
-    kind(b"refusal_12");
-    kind(b"several_rules");
+fn last_refusals(rt: &(impl Files + Print)) {
+    kind(rt, "refusal_7");
+    kind(rt, "refusal_8");
+    kind(rt, "refusal_9");
+    kind(rt, "refusal_10");
+    kind(rt, "refusal_11");
+    kind(rt, "refusal_12");
+    kind(rt, "several_rules");
 }
 
 // Settled sheets: bands, halves, counts, months.
-fn settled() {
-    kind(b"bands_of_k1");
-    kind(b"bands_of_consumers");
-    kind(b"ties");
-    kind(b"zero_counts");
-    kind(b"months");
+fn settled(rt: &(impl Files + Print)) {
+    kind(rt, "bands_of_k1");
+    kind(rt, "bands_of_consumers");
+    kind(rt, "ties");
+    kind(rt, "zero_counts");
+    kind(rt, "months");
 }
 
 // Settled sheets at their limits, damaged sheets, buffers.
-fn limits() {
-    kind(b"ceilings");
-    kind(b"cut");
-    kind(b"credits");
-    kind(b"largest");
-    kind(b"damaged");
-    kind(b"buffers");
+fn limits(rt: &(impl Files + Print)) {
+    kind(rt, "ceilings");
+    kind(rt, "cut");
+    kind(rt, "credits");
+    kind(rt, "largest");
+    kind(rt, "damaged");
+    kind(rt, "buffers");
 }
 
 // Consumers under the text of 2015.
-fn text_2015() {
-    kind_under(true, b"text_2015_bands");
-    kind_under(true, b"text_2015_ties");
-    kind_under(true, b"text_2015_rooms");
-    kind_under(true, b"text_2015_refusals");
+fn text_2015(rt: &(impl Files + Print)) {
+    kind_under(rt, true, "text_2015_bands");
+    kind_under(rt, true, "text_2015_ties");
+    kind_under(rt, true, "text_2015_rooms");
+    kind_under(rt, true, "text_2015_refusals");
 }
 
-fn main() {
-    papers();
-    first_refusals();
-    last_refusals();
-    settled();
-    limits();
-    text_2015();
+fn main(rt: HostRuntime) {
+    papers(&rt);
+    first_refusals(&rt);
+    last_refusals(&rt);
+    settled(&rt);
+    limits(&rt);
+    text_2015(&rt);
 }

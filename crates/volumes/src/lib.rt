@@ -1,5 +1,6 @@
 // What the rows of a sheet add up to for each producer, and how many it has.
 #![tactic(auto)]
+
 ghost use Rattle.std.specs.Prelude.{◌≡◌, ℕ, ◌<◌, get_or};
 ghost use Rattle.rules.specs.Range.{listed};
 ghost use Rattle.volumes.specs.Volumes.{Fits, volumes_in, no_volumes, with_row};

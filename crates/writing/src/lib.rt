@@ -1,5 +1,6 @@
 // Big-endian fields, written at the front of a lent part.
 #![tactic(auto)]
+
 ghost use Rattle.std.specs.Prelude.{◌≡◌};
 ghost use Rattle.rules.specs.Fields.{bytes_of};
 ghost use Rattle.writing.specs.Placed.{placed, lowest_first};

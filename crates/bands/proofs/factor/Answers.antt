@@ -1,0 +1,7 @@
+use Rattle.rules.specs.Bands.{bands, band_of}
+use borrow.Author.Rules.{rules}
+use Rattle.bands.proofs.factor.Goals as goal
+
+pub returns : goal.returns
+unfolding band_of bands
+returns c = c.factor_of.ensures

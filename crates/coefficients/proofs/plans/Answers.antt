@@ -1,0 +1,5 @@
+use borrow.Author.Rules.{rules}
+use Rattle.coefficients.proofs.plans.Goals as goal
+
+pub returns : goal.returns
+returns c = rw (c.share.ensures, c.missing.ensures)

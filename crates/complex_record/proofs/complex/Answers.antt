@@ -1,0 +1,7 @@
+use Rattle.rules.specs.ComplexRecord.{complex}
+use borrow.Author.Rules.{rules}
+use Rattle.complex_record.proofs.complex.Goals as goal
+
+pub returns : goal.returns
+unfolding complex
+returns c = c.byte.ensures

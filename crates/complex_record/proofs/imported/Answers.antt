@@ -1,0 +1,7 @@
+use Rattle.rules.specs.ComplexRecord.{imported}
+use borrow.Author.Rules.{rules}
+use Rattle.complex_record.proofs.imported.Goals as goal
+
+pub returns : goal.returns
+unfolding imported
+returns c = c.word.ensures

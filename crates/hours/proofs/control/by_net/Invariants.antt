@@ -1,0 +1,11 @@
+use Rattle.std.proofs.Common.{◌≡◌, ◌-◌, ◌≤◌, sym, ◌∙◌, ⊎_elim, zero-le, arith, rules}
+use Rattle.hours.specs.Series.{net_in}
+use Rattle.hours.proofs.Standing.{fewer}
+use Rattle.hours.proofs.Turns.{SoFar, none_yet, control_added, other_more, all_days}
+use Rattle.hours.proofs.control.by_net.Given as goal
+
+abbrev pub invariant-loop-day : goal.invariant-loop-day
+invariant-loop-day l = SoFar (net_in l.part l.of l.taken) l.control.on l.day l.counted.0 l.count × (l.day ≤ l.days)
+
+abbrev pub decreases-loop-day : goal.decreases-loop-day
+decreases-loop-day l = l.days - l.day

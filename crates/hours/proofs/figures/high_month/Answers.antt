@@ -1,0 +1,5 @@
+use Rattle.std.proofs.Common.{rules}
+use Rattle.hours.proofs.figures.high_month.Goals as goal
+
+pub returns : goal.returns
+returns c = rw c.no_sums.ensures

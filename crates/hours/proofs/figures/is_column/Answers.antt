@@ -1,0 +1,7 @@
+use Rattle.std.proofs.Common.{refl, rules}
+use Rattle.hours.specs.Figures.{is_column}
+use Rattle.hours.proofs.figures.is_column.Goals as goal
+
+pub returns : goal.returns
+unfolding is_column
+returns c = refl

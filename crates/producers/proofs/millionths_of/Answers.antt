@@ -1,0 +1,7 @@
+use mathlib.Core.Path.{sym, ◌∙◌}
+use Rattle.laws.proofs.Coefficients.{ratio_is}
+use borrow.Author.Rules.{rules}
+use Rattle.producers.proofs.millionths_of.Goals as goal
+
+pub returns : goal.returns
+returns c = c.nearest.ensures ∙ sym (ratio_is _)

@@ -1,0 +1,15 @@
+use mathlib.Core.Path.{sym, ap, ◌∙◌}
+use borrow.Author.Tests.{lt-ltb, le-ltb}
+use Rattle.rules.specs.Refusals.{too_dear}
+use Rattle.units.specs.Ceilings.{price_said}
+use Rattle.units.proofs.Trying.{within_told, above_told}
+use borrow.Author.Rules.{rules}
+use Rattle.refusals_record.proofs.too_dear.Goals as goal
+
+pub returns-in-Within : goal.returns-in-Within
+unfolding too_dear
+returns-in-Within c = sym (le-ltb _ _ (within_told _ _ _ c.in-Within.ensures).1)
+
+pub returns-in-Above : goal.returns-in-Above
+unfolding too_dear
+returns-in-Above c = sym (lt-ltb _ _ (above_told _ _ _ c.in-Above.ensures))

@@ -1,0 +1,7 @@
+use Rattle.rules.specs.Sheet.{version}
+use borrow.Author.Rules.{rules}
+use Rattle.sheet.proofs.layout.Goals as goal
+
+pub returns : goal.returns
+unfolding version
+returns c = rw (c.byte.ensures, c.header-h.ensures)

@@ -1,0 +1,6 @@
+use Rattle.writing.proofs.Placing.{turned_bytes}
+use borrow.Author.Rules.{rules}
+use Rattle.writing.proofs.turned.Goals as goal
+
+pub returns : goal.returns
+returns c = turned_bytes c.args.v
