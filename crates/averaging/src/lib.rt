@@ -1,5 +1,6 @@
 // Industrial complexes: the peak by averaging, written into a sheet. Every sheet and every record is answered.
 #![tactic(auto)]
+
 ghost use Rattle.std.specs.Prelude.{◌≡◌, ◌≤◌, ◌<◌, length};
 ghost use Rattle.rules.specs.Sheet.{sheet_length, with_peak};
 ghost use Rattle.rules.specs.ComplexRecord.{record_width};

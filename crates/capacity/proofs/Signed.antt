@@ -39,7 +39,7 @@ count_fits n l = record { sfits = omega arith }
 
 -- What comes back is the answer's number.
 pub number_back : (n : ℕ) → n < 256 → to_z w64 (of_z w64 (pos 0 -ℤ to_z w64 n)) ≡ in_c (refused n)
-number_back n l = to_z-of_z (number_fits n l) ∙ less n l
+number_back n l = to_z-of_z {w = w64} (number_fits n l) ∙ less n l
 
 pub count_back : (n : ℕ) → n < count_end → to_z w64 n ≡ in_c (written n)
 count_back n l = to_z_pos w64 {n = n} (omega arith)
@@ -73,4 +73,4 @@ done_small number e = count_small number 0 (λ z. omega arith) e
 
 -- What an entry gets back is the outcome's number.
 pub handed_on : {z : ℤ} {o p : Outcome} → mag z < count_end → z ≡ in_c o → o ≡ p → to_z w64 (of_z w64 z) ≡ in_c p
-handed_on l e q = to_z-of_z (record { sfits = l }) ∙ e ∙ ap in_c q
+handed_on l e q = to_z-of_z {w = w64} (record { sfits = l }) ∙ e ∙ ap in_c q

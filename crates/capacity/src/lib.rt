@@ -1,5 +1,6 @@
 // The entries for C, one below the other. All answers are i64: a count, or minus the refusal's number (include/capacity.h).
 #![tactic(auto)]
+
 ghost use Rattle.std.specs.Prelude.{◌≡◌, length, ◌<◌};
 ghost use Rattle.rules.specs.Outcome.{outcome, buffer_after};
 ghost use Rattle.rules.specs.Said.{said};

@@ -3,10 +3,10 @@
 
 use reading::read_full;
 use std::fs;
-use std::rt::Files;
+use std::rt::Runtime;
 
 // The listing of the sheet in a file.
-fn list_file(rt: &(impl Files + Print), name: &str) {
+fn list_file(rt: &impl Runtime, name: &str) {
     match fs::open(rt, name) {
         Ok(mut file) => {
             let mut sheet = [0u8; 65536];

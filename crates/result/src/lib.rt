@@ -1,5 +1,6 @@
 // The figures of one month: the numbers from 4 on under a layout, and the result of a month to which none applies.
 #![tactic(auto)]
+
 ghost use Rattle.std.specs.Prelude.{◌≡◌, length};
 ghost use Rattle.refusals_sheet.specs.Numbers.{month_number};
 ghost use Rattle.result.specs.After.{month_after};

@@ -1,5 +1,6 @@
 // The settlement of one month: every sheet and every result buffer is answered.
 #![tactic(auto)]
+
 ghost use Rattle.std.specs.Prelude.{◌≡◌, length, ◌+◌};
 ghost use Rattle.rules.specs.Outcome.{outcome, buffer_after, hours_stretch, within};
 ghost use Rattle.rules.specs.Said.{said};

@@ -8,7 +8,7 @@ use rules::Answer;
 use settlement::settle;
 use std::fs;
 use std::io::Read;
-use std::rt::Files;
+use std::rt::Runtime;
 use text2015::settle_2015;
 
 // What stands before a case's sheet: the sheet's length, the result buffer's length, and the rival's answer, which is a refusal's number
@@ -151,7 +151,7 @@ fn tally_of<R: Read>(file: &mut R, old: bool) -> Tally {
 }
 
 // The cases of one kind: the kind and their count, or the number of the first that differs.
-fn kind_under(rt: &(impl Files + Print), old: bool, name: &str) {
+fn kind_under(rt: &impl Runtime, old: bool, name: &str) {
     match fs::open(rt, name) {
         Ok(mut file) => {
             let seen = tally_of(&mut file, old);
@@ -168,18 +168,18 @@ fn kind_under(rt: &(impl Files + Print), old: bool, name: &str) {
     }
 }
 
-fn kind(rt: &(impl Files + Print), name: &str) {
+fn kind(rt: &impl Runtime, name: &str) {
     kind_under(rt, false, name);
 }
 
 // Document 01's own months, and the slips.
-fn papers(rt: &(impl Files + Print)) {
+fn papers(rt: &impl Runtime) {
     kind(rt, "checked_months");
     kind(rt, "slips");
 }
 
 // The refusals.
-fn first_refusals(rt: &(impl Files + Print)) {
+fn first_refusals(rt: &impl Runtime) {
     kind(rt, "refusal_1");
     kind(rt, "refusal_2");
     kind(rt, "refusal_3");
@@ -189,7 +189,7 @@ fn first_refusals(rt: &(impl Files + Print)) {
 }
 
 // More refusals, and sheets that break several rules.
-fn last_refusals(rt: &(impl Files + Print)) {
+fn last_refusals(rt: &impl Runtime) {
     kind(rt, "refusal_7");
     kind(rt, "refusal_8");
     kind(rt, "refusal_9");
@@ -200,7 +200,7 @@ fn last_refusals(rt: &(impl Files + Print)) {
 }
 
 // Settled sheets: bands, halves, counts, months.
-fn settled(rt: &(impl Files + Print)) {
+fn settled(rt: &impl Runtime) {
     kind(rt, "bands_of_k1");
     kind(rt, "bands_of_consumers");
     kind(rt, "ties");
@@ -209,7 +209,7 @@ fn settled(rt: &(impl Files + Print)) {
 }
 
 // Settled sheets at their limits, damaged sheets, buffers.
-fn limits(rt: &(impl Files + Print)) {
+fn limits(rt: &impl Runtime) {
     kind(rt, "ceilings");
     kind(rt, "cut");
     kind(rt, "credits");
@@ -219,7 +219,7 @@ fn limits(rt: &(impl Files + Print)) {
 }
 
 // Consumers under the text of 2015.
-fn text_2015(rt: &(impl Files + Print)) {
+fn text_2015(rt: &impl Runtime) {
     kind_under(rt, true, "text_2015_bands");
     kind_under(rt, true, "text_2015_ties");
     kind_under(rt, true, "text_2015_rooms");

@@ -1,0 +1,10 @@
+use Rattle.capacity.proofs.Signed.{settled_small, handed_on}
+use borrow.Author.Rules.{rules}
+use Rattle.capacity.proofs.capacity_settle.Goals as goal
+
+pub in_c-requires : goal.in_c-requires
+in_c-requires c = settled_small _ _ c.settle.ensures.answer
+
+pub returns : goal.returns
+returns c =
+    record { answer = handed_on c.in_c.type_inv c.in_c.ensures c.settle.ensures.answer; buffer = c.settle.ensures.buffer }
