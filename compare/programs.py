@@ -66,7 +66,7 @@ def build_rival(sources=ROOT / "rival"):
 
 def build_module(archive):
     if not Path(archive).is_file():
-        raise Trouble(f"there is no archive {archive}; make it with: rt staticlib capacity")
+        raise Trouble(f"there is no archive {archive}; make it with: tools/archive")
     make_folder(OUT)
     for driver in (MODULE, CHANGED):
         build_driver(driver, archive)

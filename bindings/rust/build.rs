@@ -25,7 +25,7 @@ fn main() {
         println!("cargo::error={NAME} holds code for x86-64, and this build is for {processor}");
     } else if !archive.is_file() {
         println!(
-            "cargo::error=there is no {}; make it with 'rt staticlib capacity', or name its folder in CAPACITY_ARCHIVE_DIR",
+            "cargo::error=there is no {}; make it with 'tools/archive', or name its folder in CAPACITY_ARCHIVE_DIR",
             archive.display()
         );
     } else {

@@ -1,6 +1,6 @@
 #!/bin/sh
 # Builds the C programs against the proved archive, runs them, and reads off what the archive exports, needs and uses.
-# A line for each; status 1 where one fails. First: rt staticlib capacity. CC and CXX name other compilers.
+# A line for each; status 1 where one fails. First: tools/archive. CC and CXX name other compilers.
 set -eu
 cd "$(dirname "$0")/../.."
 archive=target/staticlib/libcapacity.a
@@ -8,7 +8,7 @@ out=target/c
 CC=${CC:-cc}
 CXX=${CXX:-c++}
 if [ ! -f "$archive" ]; then
-    echo "tests/c/run.sh: no $archive; make it with: rt staticlib capacity" >&2
+    echo "tests/c/run.sh: no $archive; make it with: tools/archive" >&2
     exit 2
 fi
 mkdir -p "$out"

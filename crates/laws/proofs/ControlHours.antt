@@ -7,7 +7,6 @@ use lib.Dec.{leb}
 use borrow.Author.Tests.{le-leb, lt-leb}
 use Rattle.rules.specs.declared.Header.{Header}
 use Rattle.rules.specs.Range.{sum, when}
-use Rattle.rules.specs.Month.{hours}
 use Rattle.rules.specs.ControlHours.{control_day, control_hour, counted, once, control_sum, control_count}
 use Rattle.laws.proofs.Range.{sum_same}
 

@@ -3,7 +3,7 @@ use Rattle.std.specs.Prelude.{ℕ, ◌+◌, ◌≡◌, refl}
 use Rattle.std.specs.Prelude.{List, [], ◌∷◌, ◌++◌, replicate}
 use Rattle.rules.specs.Range.{when}
 use Rattle.rules.specs.Units.{hundredth}
-use Rattle.rules.specs.Month.{Header, Producer, Month}
+use Rattle.rules.specs.Month.{Month}
 use Rattle.rules.specs.ControlHours.{control_average}
 use Rattle.rules.specs.Coefficients.{k4}
 use Rattle.rules.specs.Fields.{joined}

@@ -129,11 +129,9 @@ struct Tally {
 }
 
 fn tally_of<R: Read>(file: &mut R, old: bool) -> Tally {
-    let mut n: u64 = 0;
-    while n < 10000 {
-        let seen = compare(file, old);
-        match seen {
-            Compared::Alike => n += 1,
+    for n in 0..10000u64 {
+        match compare(file, old) {
+            Compared::Alike => {}
             Compared::Different => return Tally {
                 count: n,
                 all: false,
@@ -145,7 +143,7 @@ fn tally_of<R: Read>(file: &mut R, old: bool) -> Tally {
         }
     }
     Tally {
-        count: n,
+        count: 10000,
         all: false,
     }
 }

@@ -1,5 +1,4 @@
 use Rattle.rules.specs.Bands.{bands, band_of}
-use borrow.Author.Rules.{rules}
 use Rattle.bands.proofs.factor.Goals as goal
 
 pub returns : goal.returns

@@ -3,7 +3,6 @@ use mathlib.Core.List.{[], ◌∷◌}
 use Rattle.rules.specs.Bands.{up_to}
 use Rattle.rules.specs.Text2015.{bands_2015}
 use Rattle.bands.proofs.Bands.{last_twice}
-use borrow.Author.Rules.{rules}
 use Rattle.bands.proofs.factor_2015.Goals as goal
 
 pub returns : goal.returns

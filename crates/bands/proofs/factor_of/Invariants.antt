@@ -1,11 +1,7 @@
-use mathlib.Core.Path.{◌≡◌, refl, sym, ap, ◌∙◌}
-use Prim.Native.Nat.{ℕ, ◌≤◌, ◌-◌}
-use native.Mathlib.Numerals.{add-one}
-use native.Mathlib.Omega.{arith}
-use lib.ListN.{length, drop}
-use Rattle.rules.specs.Bands.{up_to, factor_of}
-use Rattle.bands.proofs.Bands.{row_holds, row_passed, last_row}
-use borrow.Author.Rules.{rules}
+use mathlib.Core.Path.{◌≡◌}
+use Prim.Native.Nat.{◌≤◌, ◌-◌}
+use lib.ListN.{drop}
+use Rattle.rules.specs.Bands.{factor_of}
 use Rattle.bands.proofs.factor_of.Given as goal
 
 abbrev pub invariant-loop-i : goal.invariant-loop-i

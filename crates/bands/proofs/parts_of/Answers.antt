@@ -1,6 +1,5 @@
 use mathlib.Core.Path.{sym, ◌∙◌}
 use native.Mathlib.Nat.{pos_of_ne-zero}
-use borrow.Author.Rules.{rules}
 use Rattle.rules.specs.Bands.{over_nothing, parts_of}
 use Rattle.laws.proofs.Bands.{parts_rounded, parts_over_nothing}
 use Rattle.bands.proofs.parts_of.Goals as goal

@@ -1,4 +1,3 @@
-use borrow.Author.Rules.{rules}
 use Rattle.bands.proofs.thousandths.Goals as goal
 
 pub returns : goal.returns

@@ -1,11 +1,10 @@
 use mathlib.Core.Path.{◌≡◌, refl, sym, ◌∙◌}
-use mathlib.Core.Logic.{⊎_elim}
 use mathlib.Core.Bool.{Bool, true, false, not, cond, ◌&&◌}
 use borrow.Author.Tests.{eq-eqb, ne_eqb, ltb-false, ltb-true}
 use lib.Bits.{bit_and}
 use lib.Dec.{eqb, ltb}
 use lib.ListN.{get_or}
-use Prim.Native.Nat.{ℕ, ◌-◌, ◌≤◌, ◌<◌, zero-le}
+use Prim.Native.Nat.{ℕ, ◌-◌, ◌<◌, zero-le}
 use native.Mathlib.Omega.{arith}
 use Rattle.rules.specs.declared.Header.{Header}
 use Rattle.rules.specs.ControlHours.{holiday_on}
@@ -14,7 +13,6 @@ use Rattle.laws.proofs.Arrays.{filled}
 use Rattle.laws.proofs.ControlTable.{no_day}
 use Rattle.calendar.specs.Days.{day_on}
 use Rattle.calendar.proofs.Days.{none_filled, day_joined, day_off, on_both, on_rest}
-use borrow.Author.Rules.{rules}
 use Rattle.calendar.proofs.control_days.Goals.{Joined-line-i-eq-YES, else-line-i-eq-YES, then-line-i-eq-YES}
 use Rattle.calendar.proofs.control_days.Goals as goal
 

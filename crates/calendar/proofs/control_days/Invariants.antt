@@ -1,20 +1,9 @@
-use mathlib.Core.Path.{◌≡◌, refl, sym, ◌∙◌}
-use mathlib.Core.Logic.{⊎_elim}
-use mathlib.Core.Bool.{Bool, true, false, not, cond, ◌&&◌}
-use borrow.Author.Tests.{eq-eqb, ne_eqb, ltb-false, ltb-true}
-use lib.Bits.{bit_and}
-use lib.Dec.{eqb, ltb}
-use lib.ListN.{get_or}
-use Prim.Native.Nat.{ℕ, ◌-◌, ◌≤◌, ◌<◌, zero-le}
-use native.Mathlib.Omega.{arith}
-use Rattle.rules.specs.declared.Header.{Header}
-use Rattle.rules.specs.ControlHours.{holiday_on}
-use Rattle.rules.specs.ControlTable.{yes, says, table_day}
+use mathlib.Core.Path.{◌≡◌}
+use mathlib.Core.Bool.{false}
+use Prim.Native.Nat.{ℕ, ◌-◌, ◌≤◌}
+use Rattle.rules.specs.ControlTable.{says}
 use Rattle.laws.proofs.Arrays.{filled}
-use Rattle.laws.proofs.ControlTable.{no_day}
 use Rattle.calendar.specs.Days.{day_on}
-use Rattle.calendar.proofs.Days.{none_filled, day_joined, day_off, on_both, on_rest}
-use borrow.Author.Rules.{rules}
 use Rattle.calendar.proofs.control_days.Given as goal
 
 abbrev pub invariant-loop-day : goal.invariant-loop-day

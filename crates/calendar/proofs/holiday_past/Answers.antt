@@ -1,6 +1,5 @@
 use native.Mathlib.Omega.{arith}
 use Rattle.calendar.proofs.Shifts.{shifted_out}
-use borrow.Author.Rules.{rules}
 use Rattle.calendar.proofs.holiday_past.Goals as goal
 
 pub returns-else-h-lt32 : goal.returns-else-h-lt32

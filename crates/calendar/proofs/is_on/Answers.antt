@@ -2,7 +2,6 @@ use native.Mathlib.Omega.{arith}
 use lib.Bits.{and_mask}
 use Rattle.calendar.specs.Days.{day_on}
 use Rattle.calendar.proofs.Shifts.{shifted_out}
-use borrow.Author.Rules.{rules}
 use Rattle.calendar.proofs.is_on.Goals as goal
 
 pub returns-then-day-lt32 : goal.returns-then-day-lt32

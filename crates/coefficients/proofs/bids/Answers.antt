@@ -1,7 +1,6 @@
 use native.Mathlib.Omega.{arith}
 use mathlib.Core.Path.{◌≡◌}
 use Prim.Native.Nat.{max}
-use borrow.Author.Rules.{rules}
 use Rattle.coefficients.proofs.bids.Goals as goal
 
 pub returns-then-up-down : goal.returns-then-up-down

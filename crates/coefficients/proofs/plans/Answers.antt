@@ -1,4 +1,3 @@
-use borrow.Author.Rules.{rules}
 use Rattle.coefficients.proofs.plans.Goals as goal
 
 pub returns : goal.returns

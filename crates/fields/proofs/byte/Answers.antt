@@ -3,7 +3,6 @@ use native.Mathlib.Omega.{arith}
 use native.Mathlib.Nat.{add-zero}
 use mathlib.Core.Path.{sym}
 use Rattle.laws.proofs.Fields.{read_past}
-use borrow.Author.Rules.{rules}
 use Rattle.fields.proofs.byte.Goals as goal
 
 pub returns-then-at-s : goal.returns-then-at-s

@@ -1,7 +1,6 @@
 use Rattle.rules.specs.Fields.{big_endian}
 use native.Mathlib.Omega.{arith}
 use native.Mathlib.Nat.{add-zero}
-use borrow.Author.Rules.{rules}
 use Rattle.fields.proofs.word.Goals as goal
 
 pub returns : goal.returns

@@ -1,7 +1,6 @@
 use native.Mathlib.Omega.{arith}
 use mathlib.Core.Path.{sym}
 use Rattle.laws.proofs.Fields.{read_past, read_joined}
-use borrow.Author.Rules.{rules}
 use Rattle.fields.proofs.word_at_end.Goals as goal
 
 pub returns-then-at-s : goal.returns-then-at-s

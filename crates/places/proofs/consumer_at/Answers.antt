@@ -1,6 +1,5 @@
 use native.Mathlib.Omega.{arith}
 use Rattle.rules.specs.Sheet.{consumer_at}
-use borrow.Author.Rules.{rules}
 use Rattle.places.proofs.consumer_at.Goals as goal
 
 pub returns : goal.returns

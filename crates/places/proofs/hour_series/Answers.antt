@@ -1,6 +1,5 @@
 use mathlib.Core.Path.{sym, ◌∙◌}
 use Rattle.rules.specs.Sheet.{hour_series}
-use borrow.Author.Rules.{rules}
 use Rattle.places.proofs.hour_series.Goals as goal
 
 pub returns-then-by_column : goal.returns-then-by_column

@@ -1,6 +1,5 @@
 use native.Mathlib.Omega.{arith}
 use Rattle.rules.specs.Sheet.{hours_at}
-use borrow.Author.Rules.{rules}
 use Rattle.places.proofs.hours_at.Goals as goal
 
 pub returns : goal.returns

@@ -1,7 +1,6 @@
 use native.Mathlib.Omega.{arith}
 use Rattle.rules.specs.Sheet.{producer_at}
 use Rattle.laws.proofs.Sheet.{producers_le}
-use borrow.Author.Rules.{rules}
 use Rattle.places.proofs.producer_at.Goals as goal
 
 pub overflow_mul-result-2 : goal.overflow_mul-result-2

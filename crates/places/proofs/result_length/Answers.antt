@@ -1,6 +1,5 @@
 use native.Mathlib.Omega.{arith}
 use Rattle.rules.specs.Result.{result_length}
-use borrow.Author.Rules.{rules}
 use Rattle.places.proofs.result_length.Goals as goal
 
 pub returns : goal.returns

@@ -2,7 +2,6 @@ use Prim.Native.Nat.{◌*◌, ◌≤◌}
 use native.Mathlib.Nat.{mul-le-mul}
 use native.Mathlib.Omega.{arith}
 use Rattle.rules.specs.Sheet.{row_at}
-use borrow.Author.Rules.{rules}
 use Rattle.places.proofs.row_at.Goals.{After-row_width}
 use Rattle.places.proofs.row_at.Goals as goal
 

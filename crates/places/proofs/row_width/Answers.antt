@@ -1,7 +1,6 @@
 use mathlib.Core.Path.{sym, ◌∙◌}
 use native.Mathlib.Omega.{arith}
 use Rattle.rules.specs.Sheet.{row_width}
-use borrow.Author.Rules.{rules}
 use Rattle.places.proofs.row_width.Goals as goal
 
 pub returns-then-states_days : goal.returns-then-states_days

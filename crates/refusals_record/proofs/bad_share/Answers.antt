@@ -1,6 +1,5 @@
 use mathlib.Core.Bool.{or-false}
 use Rattle.rules.specs.Refusals.{one_of, bad_share}
-use borrow.Author.Rules.{rules}
 use Rattle.refusals_record.proofs.bad_share.Goals as goal
 
 pub returns : goal.returns

@@ -1,6 +1,5 @@
 use Rattle.rules.specs.Refusals.{one_of, high_consumer}
 use mathlib.Core.Bool.{or-false}
-use borrow.Author.Rules.{rules}
 use Rattle.refusals_record.proofs.high_consumer.Goals as goal
 
 pub returns : goal.returns

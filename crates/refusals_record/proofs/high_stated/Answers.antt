@@ -1,5 +1,4 @@
 use Rattle.refusals_record.specs.Stated.{high_stated}
-use borrow.Author.Rules.{rules}
 use Rattle.refusals_record.proofs.high_stated.Goals as goal
 
 pub returns : goal.returns

@@ -1,9 +1,7 @@
-use mathlib.Core.Path.{sym, ap, ◌∙◌}
+use mathlib.Core.Path.{sym}
 use borrow.Author.Tests.{lt-ltb, le-ltb}
 use Rattle.rules.specs.Refusals.{too_dear}
-use Rattle.units.specs.Ceilings.{price_said}
 use Rattle.units.proofs.Trying.{within_told, above_told}
-use borrow.Author.Rules.{rules}
 use Rattle.refusals_record.proofs.too_dear.Goals as goal
 
 pub returns-in-Within : goal.returns-in-Within

@@ -1,9 +1,7 @@
-use mathlib.Core.Path.{sym, ap, ◌∙◌}
+use mathlib.Core.Path.{sym}
 use borrow.Author.Tests.{lt-ltb, le-ltb}
 use Rattle.rules.specs.Refusals.{too_high}
-use Rattle.units.specs.Ceilings.{capacity_said}
 use Rattle.units.proofs.Trying.{within_told, above_told}
-use borrow.Author.Rules.{rules}
 use Rattle.refusals_record.proofs.too_high.Goals as goal
 
 pub returns-in-Within : goal.returns-in-Within

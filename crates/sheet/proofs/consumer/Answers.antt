@@ -4,7 +4,6 @@ use Prim.Native.Nat.{◌+◌, ◌-◌}
 use Rattle.rules.specs.Sheet.{consumer_of}
 use Rattle.sheet.proofs.Parts.{consumer_in_part}
 use Rattle.sheet.proofs.Whole.{consumer_whole, consumer_short}
-use borrow.Author.Rules.{rules}
 use Rattle.sheet.proofs.consumer.Goals as goal
 
 pub returns-then-s-consumer_end : goal.returns-then-s-consumer_end

@@ -1,6 +1,5 @@
 use mathlib.Core.Path.{sym, ◌∙◌}
 use Rattle.rules.specs.Sheet.{day_at}
-use borrow.Author.Rules.{rules}
 use Rattle.sheet.proofs.day_at.Goals as goal
 
 pub returns-then-states_days : goal.returns-then-states_days

@@ -1,5 +1,4 @@
 use Rattle.rules.specs.Sheet.{version}
-use borrow.Author.Rules.{rules}
 use Rattle.sheet.proofs.layout.Goals as goal
 
 pub returns : goal.returns

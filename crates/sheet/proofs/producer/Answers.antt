@@ -4,7 +4,6 @@ use native.Mathlib.Omega.{arith}
 use Rattle.rules.specs.Sheet.{stated_of}
 use Rattle.sheet.proofs.Parts.{stated_in_part}
 use Rattle.sheet.proofs.Whole.{stated_whole, stated_short}
-use borrow.Author.Rules.{rules}
 use Rattle.sheet.proofs.producer.Goals as goal
 
 pub returns-then-s-stated_end : goal.returns-then-s-stated_end

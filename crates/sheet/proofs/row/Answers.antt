@@ -4,7 +4,6 @@ use Prim.Native.Nat.{◌+◌, ◌-◌}
 use Rattle.rules.specs.Sheet.{row_of}
 use Rattle.sheet.proofs.Parts.{row_in_part}
 use Rattle.sheet.proofs.Whole.{row_whole, row_short}
-use borrow.Author.Rules.{rules}
 use Rattle.sheet.proofs.row.Goals as goal
 
 pub returns-then-s-row_end : goal.returns-then-s-row_end

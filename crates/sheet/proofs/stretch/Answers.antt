@@ -3,7 +3,6 @@ use native.Mathlib.Nat.{add-sub_cancel_left}
 use native.Mathlib.Omega.{arith}
 use Rattle.rules.specs.Outcome.{within}
 use Rattle.sheet.proofs.Whole.{stretch_whole, stretch_short}
-use borrow.Author.Rules.{rules}
 use Rattle.sheet.proofs.stretch.Goals as goal
 
 pub returns-then-s-end : goal.returns-then-s-end

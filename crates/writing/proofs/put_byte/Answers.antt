@@ -6,7 +6,6 @@ use lib.Seq.{sets-eq}
 use Rattle.writing.proofs.Placing.{field_not, field_over}
 use lib.ListN.{set, length-set}
 use mathlib.Core.Path.{◌≡◌, sym, ap, ◌∙◌}
-use borrow.Author.Rules.{rules}
 use Rattle.writing.proofs.put_byte.Goals as goal
 
 pub returns-then-part-lt1 : goal.returns-then-part-lt1

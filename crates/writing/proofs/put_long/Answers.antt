@@ -6,7 +6,6 @@ use mathlib.Core.Path.{◌∙◌, sym, ap}
 use mathlib.Core.List.{List}
 use Prim.Native.Nat.{ℕ, ◌/◌}
 use Rattle.laws.proofs.Fields.{length-bytes_of}
-use borrow.Author.Rules.{rules}
 use Rattle.writing.proofs.put_long.Goals as goal
 
 pub returns-then-part-lt8 : goal.returns-then-part-lt8

@@ -7,7 +7,6 @@ use lib.ListN.{length-set}
 use mathlib.Core.Path.{◌∙◌, sym, ap}
 use mathlib.Core.List.{List}
 use Prim.Native.Nat.{ℕ}
-use borrow.Author.Rules.{rules}
 use Rattle.writing.proofs.put_word.Goals as goal
 
 pub returns-then-part-lt4 : goal.returns-then-part-lt4

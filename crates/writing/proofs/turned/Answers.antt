@@ -1,5 +1,4 @@
 use Rattle.writing.proofs.Placing.{turned_bytes}
-use borrow.Author.Rules.{rules}
 use Rattle.writing.proofs.turned.Goals as goal
 
 pub returns : goal.returns

@@ -1,5 +1,5 @@
 use mathlib.Core.Path.{◌≡◌}
-use mathlib.Core.Logic.{◌⊎◌, inl, inr, ⊎_elim}
+use mathlib.Core.Logic.{inl, inr, ⊎_elim}
 use mathlib.Core.List.{List, []}
 use Prim.Native.Nat.{ℕ, suc, ◌≤◌, ◌<◌}
 use native.Mathlib.Nat.{eq-zero-or-pos}
@@ -7,7 +7,6 @@ use native.Mathlib.Omega.{arith}
 use lib.ListN.{get_or}
 use Rattle.rules.specs.ControlTable.{control_weekdays, line_of}
 use Rattle.laws.proofs.ControlTable.{line_at, line_none}
-use borrow.Author.Rules.{rules}
 use Rattle.calendar.proofs.table.line_of.Goals as goal
 
 -- The line that is read at a weekday.
