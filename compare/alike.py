@@ -34,13 +34,13 @@ ALIKE = [
       "ControlHours.control_sum: sum (counted h series) (hours h) → sum (counted h series) (hours h - 1)"]),
     ("the first weekday and the day are added up, which is the same in either order",
      ["ControlHours.control_weekday: weekday_on first day → weekday_on day first",
-      "ControlHours.control_day: control_weekday (h .weekday) day → control_weekday day (h .weekday)",
+      "ControlHours.control_day: control_weekday h.weekday day → control_weekday day h.weekday",
       "ControlTable.control_weekdays: control_weekday (suc i) day → control_weekday day (suc i)"]),
     ("what is read past a line's end says no where it is not the letter y, be it 0 or 1",
-     ["ControlTable.says: getD (line_of first) day 0 → getD (line_of first) day 1"]),
+     ["ControlTable.says: get_or (line_of first) day 0 → get_or (line_of first) day 1"]),
     ("the row past the last is read from the first consumer's contract volume, whose second byte is at most 1 "
      "(number 9), or past the end as 0: it is never a support row",
-     ["Cut.support_volume: sum (own_support m v p) (m .header .rows) → sum (own_support m v p) (m .header .rows + 1)"]),
+     ["Cut.support_volume: sum (own_support m v p) m.header.rows → sum (own_support m v p) (m.header.rows + 1)"]),
     ("a producer without rows has none that would be worked as one fraction",
      ["Cut.single: eqb (row_count m p) 1 → leb (row_count m p) 1"]),
     ("a difference ends at 0, so v - min v left is v - left, and left - min v left is left - v",
@@ -49,18 +49,18 @@ ALIKE = [
       "Cut.cut_in_order: min v left → v (2)",
       "Cut.cut_in_order: min v left → min v v (2)"]),
     ("a product is the same in either order",
-     ["Rows.payment: money (actual m j) (m .row j .price) → money (m .row j .price) (actual m j)",
-      "Consumers.charge: money (volume m c) (m .consumer c .price) → money (m .consumer c .price) (volume m c)",
-      "Text2015.charge_2015: money (volume_2015 m c) (m .consumer c .price) → "
-      "money (m .consumer c .price) (volume_2015 m c)",
-      "Rows.begun: as_one_fraction volume (exact_k1 (m .header) (m .producer p) (support_after m p)) "
-      "(exact_k4 (m .header) (m .producer p) (capacity_after m p)) → "
-      "as_one_fraction volume (exact_k4 (m .header) (m .producer p) (capacity_after m p)) "
-      "(exact_k1 (m .header) (m .producer p) (support_after m p))"]),
+     ["Rows.payment: money (actual m j) (m.row j).price → money (m.row j).price (actual m j)",
+      "Consumers.charge: money (volume m c) (m.consumer c).price → money (m.consumer c).price (volume m c)",
+      "Text2015.charge_2015: money (volume_2015 m c) (m.consumer c).price → "
+      "money (m.consumer c).price (volume_2015 m c)",
+      "Rows.begun: as_one_fraction volume (exact_k1 m.header (m.producer p) (support_after m p)) "
+      "(exact_k4 m.header (m.producer p) (capacity_after m p)) → "
+      "as_one_fraction volume (exact_k4 m.header (m.producer p) (capacity_after m p)) "
+      "(exact_k1 m.header (m.producer p) (support_after m p))"]),
     ("a support row names consumer 255, and no sheet has so many consumers (number 5)",
-     ["Consumers.credited: bilateral m j && eqb (m .row j .consumer) c → eqb (m .row j .consumer) c"]),
+     ["Consumers.credited: bilateral m j && eqb (m.row j).consumer c → eqb (m.row j).consumer c"]),
     ("a byte past the end is read only of a sheet that number 1 or 6 refuses, whatever that byte is",
-     ["Fields.big_endian: getD s (at + w) 0 → getD s (at + w) 1"]),
+     ["Fields.big_endian: get_or s (at + w) 0 → get_or s (at + w) 1"]),
     ("0 of 2 is 0, as 0 of 1 is, and so is all that is divided by 0",
      ["Coefficients.less_penalty: ratio 0 1 → ratio 0 2",
       "Coefficients.less_penalty: ratio 0 1 → ratio 1 0",
@@ -87,7 +87,7 @@ ALIKE = [
      ["Averaging.high_record: any (high_at r) (hours h) → any (high_at r) (hours h + 1)",
       "Averaging.high_record: hours h → hours_width h"]),
     ("where the two numbers are the same, both name one consumer",
-     ["Averaging.with_peak_of: m .consumer k → m .consumer c"]),
+     ["Averaging.with_peak_of: m.consumer k → m.consumer c"]),
 ]
 
 

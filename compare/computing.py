@@ -13,35 +13,30 @@ from definitions import (Call, Empty, Field, Function, Let, Name, Number, Record
 
 sys.setrecursionlimit(3000)
 
-# What the libraries give: a name, its library, its count of arguments, the Python text with a place for each of them.
-NUMBERS, BOOLS = "library Prim.Native.Nat", "library mathlib.Core.Bool"
-TESTS, LISTS = "library lib.Dec", "library lib.ListN"
-CORE_LISTS = "library mathlib.Core.List"
-ALSO_IN = {"replicate": CORE_LISTS}    # a second library that has the same
+# What the library gives: a name, its count of arguments, the Python text with a place for each of them.
+PRELUDE = "library Rattle.std.specs.Prelude"
 LIBRARY = {
-    "zero": (NUMBERS, 0, "0"),
-    "suc": (NUMBERS, 1, "({} + 1)"),
-    "min": (NUMBERS, 2, "min({}, {})"),
-    "max": (NUMBERS, 2, "max({}, {})"),
-    "true": (BOOLS, 0, "True"),
-    "false": (BOOLS, 0, "False"),
-    "not": (BOOLS, 1, "(not {})"),
-    "cond": (BOOLS, 3, "({1} if {0} else {2})"),
-    "leb": (TESTS, 2, "({} <= {})"),
-    "ltb": (TESTS, 2, "({} < {})"),
-    "eqb": (TESTS, 2, "({} == {})"),
-    "length": (LISTS, 1, "len({})"),
-    "getD": (LISTS, 3, "element({}, {}, {})"),
-    "take": (LISTS, 2, "{1}[:{0}]"),
-    "drop": (LISTS, 2, "{1}[{0}:]"),
-    "replicate": (LISTS, 2, "(({1},) * {0})"),
+    "zero": (0, "0"),
+    "suc": (1, "({} + 1)"),
+    "min": (2, "min({}, {})"),
+    "max": (2, "max({}, {})"),
+    "true": (0, "True"),
+    "false": (0, "False"),
+    "not": (1, "(not {})"),
+    "cond": (3, "({1} if {0} else {2})"),
+    "leb": (2, "({} <= {})"),
+    "ltb": (2, "({} < {})"),
+    "eqb": (2, "({} == {})"),
+    "length": (1, "len({})"),
+    "get_or": (3, "element({}, {}, {})"),
+    "take": (2, "{1}[:{0}]"),
+    "drop": (2, "{1}[{0}:]"),
+    "replicate": (2, "(({1},) * {0})"),
 }
 
-# The signs: the Python text, and the library.
+# The Python text of its signs.
 SIGN_TEXT = {"+": "({} + {})", "-": "less({}, {})", "*": "({} * {})", "/": "quotient({}, {})", "%": "remainder({}, {})",
              "^": "({} ** {})", "&&": "({} and {})", "||": "({} or {})", "∷": "(({},) + {})", "++": "({} + {})"}
-SIGN_LIBRARY = {**dict.fromkeys(("+", "-", "*", "/", "%", "^"), NUMBERS), **dict.fromkeys(("&&", "||"), BOOLS),
-                **dict.fromkeys(("∷", "++"), CORE_LISTS)}
 
 
 # ------------------------------------------------------------------ what the functions stand on
@@ -154,20 +149,20 @@ class Translator:
             place = module
         elif place is None and name in self.elsewhere:
             place = self.elsewhere[name]
-        elif place is None and self.elsewhere and name in LIBRARY:
-            place = LIBRARY[name][0]
+        elif place is None and self.elsewhere:
+            place = PRELUDE
         if place in self.modules and inner in self.modules[place].definitions:
             return ("definition", place, inner)
         if place in self.modules and inner in self.modules[place].constructors:
             return ("constructor", place, inner)
-        if inner in LIBRARY and place in (LIBRARY[inner][0], ALSO_IN.get(inner)):
+        if place == PRELUDE and inner in LIBRARY:
             return ("library", inner)
         raise Unknown(f"{module}.antt: the name {name}")
 
     def count(self, where):
         """How many arguments a global name takes."""
         if where[0] == "library":
-            return LIBRARY[where[1]][1]
+            return LIBRARY[where[1]][0]
         if where[0] == "constructor":
             return self.modules[where[1]].constructors[where[2]]
         return len(self.late[where[1:]])
@@ -356,7 +351,7 @@ def listed_alone(e):
 def applied(where, words):
     """The Python text of a global name with all its arguments."""
     if where[0] == "library":
-        return LIBRARY[where[1]][2].format(*words)
+        return LIBRARY[where[1]][1].format(*words)
     if where[0] == "constructor":
         return f"({where[2]!r}, {''.join(word + ', ' for word in words)})"
     return f"{global_name(*where[1:])}({', '.join(words)})"
@@ -390,9 +385,9 @@ def is_of_month(type_):
 
 
 def check_meanings(module, constructors):
-    """Each sign comes from the library that is known here, and no name in a pattern is a constructor's."""
+    """Each sign comes from the library, and no name in a pattern is a constructor's."""
     def check(e, known=()):
-        if isinstance(e, Sign) and module.imports.get(f"_{e.sign}_") != (SIGN_LIBRARY.get(e.sign), f"_{e.sign}_"):
+        if isinstance(e, Sign) and module.imports.get(f"◌{e.sign}◌") != (PRELUDE, f"◌{e.sign}◌"):
             raise Unknown(f"{module.name}.antt: the sign {e.sign}")
         if isinstance(e, Name) and e.text in known:
             raise Unknown(f"{module.name}.antt: the pattern {e.text}")

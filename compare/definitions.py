@@ -8,7 +8,7 @@ from typing import Any, Dict, List, NamedTuple, Tuple
 
 RULES = Path(__file__).resolve().parent.parent / "crates" / "rules"
 
-OURS = "Rattle·rules·specs.specs."
+OURS = "Rattle.rules.specs."
 # Not computed: limits are propositions, Open only gives names to sets of definitions, Said speaks of the code's answers.
 NOT_READ = ("Limits", "Open", "Said")
 
@@ -136,8 +136,7 @@ def text(e, strength=0):
     if isinstance(e, Call):
         return bracketed(" ".join([text(e.head, 90)] + [text(each, 100) for each in e.arguments]), strength > 90)
     if isinstance(e, Field):
-        of = text(e.of) if isinstance(e.of, (Call, Field)) else text(e.of, 100)
-        return bracketed(f"{of} .{e.name}", strength > 90)
+        return f"{text(e.of, 100)}.{e.name}"
     if isinstance(e, Sign):
         own, side = SIGNS[e.sign]
         left, right = text(e.left, own + (side != "left")), text(e.right, own + (side != "right"))
@@ -335,9 +334,11 @@ def result_of(type_):
 
 # ------------------------------------------------------------------ from words to expressions
 
-TOKEN = re.compile(r"\[\]|[(){};]|[^\s(){};\[\]]+")
+# A field is a word with its dot, before which no space stands; a whole module's short name is one word with the name.
+PLAIN = r"[^\s(){};\[\].]+"
+TOKEN = re.compile(rf"\[\]|[(){{}};]|[A-Z]\w*\.{PLAIN}|(?<!\s)\.{PLAIN}|{PLAIN}(?:\.(?=\s))?")
 NUMERAL = re.compile(r"\d+$")
-NAME = re.compile(r"[^\W\d][\w'·-]*(\.[^\W\d][\w'·-]*)?$|ℕ$")
+NAME = re.compile(r"([A-Z]\w*\.)?[^\W\d][\w'-]*$")
 KEYWORDS = {"let", "in", "record", "λ", "where", "=", ":", "use", "as", "pub", "abbrev", "unfoldable", "unfolding"}
 
 
@@ -428,16 +429,20 @@ class Tokens:
             word = self.next()
             if word is None or word in SIGNS or word in (")", "}", ";", "=", "in", ":"):
                 break
-            if word.startswith("."):
-                self.take()
-                if not NAME.match(word[1:]):
-                    raise Unknown(f"{word!r} where a field should be")
-                head, arguments = Field(Call(head, tuple(arguments)) if arguments else head, word[1:]), []
-            else:
-                arguments.append(self.atom())
+            arguments.append(self.atom())
         return Call(head, tuple(arguments)) if arguments else head
 
     def atom(self):
+        """What needs no brackets, with the fields that are taken from it."""
+        e = self.without_fields()
+        while (self.next() or "").startswith("."):
+            word = self.take()
+            if not NAME.match(word[1:]):
+                raise Unknown(f"{word!r} where a field should be")
+            e = Field(e, word[1:])
+        return e
+
+    def without_fields(self):
         word = self.next()
         if word == "(":
             self.take()

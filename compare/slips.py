@@ -5,8 +5,8 @@ the text that the slip puts in its place. That text may name any definition, imp
 """
 
 # Texts of Rows that several slips change: the actual volume of row j, and a product through coefficients and days.
-THROUGH = "through (begun m (m .row j .producer) (after_cut m j)) (factors m (m .row j .producer))"
-ACTUAL = f"{THROUGH} (days_covered (m .header .days) (m .row j))"
+THROUGH = "through (begun m (m.row j).producer (after_cut m j)) (factors m (m.row j).producer)"
+ACTUAL = f"{THROUGH} (days_covered m.header.days (m.row j))"
 IN_TENTHS = "to_tenths (for_days covered (running product ks))"
 
 # Texts of Coefficients: T and S after the cut; the sums over hours of which k4 is made.
@@ -15,7 +15,7 @@ SUM_MET, SUM_ASKED = "(sum (met p S) (hours h))", "(sum (asked p S) (hours h))"
 
 # Texts of Rows and Cut: k1 and k4 in the one fraction of a single row, the coefficients that follow it, and the count
 # of a producer's rows. And k1 and k4 rounded to a millionth before.
-OF_PRODUCER = "(m .header) (m .producer p)"
+OF_PRODUCER = "m.header (m.producer p)"
 K1_EXACT, K4_EXACT = f"(exact_k1 {OF_PRODUCER} (support_after m p))", f"(exact_k4 {OF_PRODUCER} (capacity_after m p))"
 FOLLOWING = f"(others {OF_PRODUCER})"
 COUNTED, IS_SINGLE = "when (owns m p j) 1", "eqb (row_count m p) 1"
@@ -26,23 +26,23 @@ S_BEFORE = "Coefficients", S_AFTER, "summed_capacity m (sold m) p"
 
 # Texts of Coefficients and Averaging: the average of outside use, the p of k1, a complex's peak. And D of the average
 # as it is, not rounded, times the count of control hours; the p of that D.
-USE_TO_A_HUNDREDTH = "control_average hundredth h (p .outsideUse)"
-P_OF_K1 = "thousandths (overuse h p) (in_hundredths (p .deductible))"
+USE_TO_A_HUNDREDTH = "control_average hundredth h p.outside_use"
+P_OF_K1 = "thousandths (overuse h p) (in_hundredths p.deductible)"
 COMPLEX_PEAK = "control_average tenth h (net r) - imported r"
-NOT_ROUNDED = "(hundredth * control_sum h (p .outsideUse) - in_hundredths (p .deductible) * control_count h)"
-P_NOT_ROUNDED = f"thousandths {NOT_ROUNDED} (in_hundredths (p .deductible) * control_count h)"
+NOT_ROUNDED = "(hundredth * control_sum h p.outside_use - in_hundredths p.deductible * control_count h)"
+P_NOT_ROUNDED = f"thousandths {NOT_ROUNDED} (in_hundredths p.deductible * control_count h)"
 
 # Deductible capacity in tenths beside hundredths, in D and in p; and the text of Units before the count of thousandths.
-TENTHS_IN_D = "Coefficients", "- in_hundredths (p .deductible)", "- p .deductible"
-TENTHS_IN_P = "Coefficients", P_OF_K1, "thousandths (overuse h p) (p .deductible)"
+TENTHS_IN_D = "Coefficients", "- in_hundredths p.deductible", "- p.deductible"
+TENTHS_IN_P = "Coefficients", P_OF_K1, "thousandths (overuse h p) p.deductible"
 IN_THOUSANDTHS = "in_thousandths tenths = tenths *"
 
 # The rows' volumes, as the sheet has them or after the cut, for the days that they cover, rounded to a tenth.
-FOR_DAYS = "(λ j. for_days (days_covered (m .header .days) (m .row j)) ({} m j))".format
+FOR_DAYS = "(λ j. for_days (days_covered m.header.days (m.row j)) ({} m j))".format
 
 # Texts of Sheet: where the three columns begin, and a column that `rearranged` writes; two that follow each other.
-FIRST, SECOND, THIRD = "series 0 4", "series (96 * h .days) 4", "series (192 * h .days) 4"
-WRITTEN = "column s (hours_at l p) (hours (l .header)) (hour_series l .{})"
+FIRST, SECOND, THIRD = "series 0 4", "series (96 * h.days) 4", "series (192 * h.days) 4"
+WRITTEN = "column s (hours_at l p) (hours l.header) (hour_series l).{}"
 TWO_WRITTEN = f"{WRITTEN}\n    ++ ({WRITTEN}".format
 LAST_WRITTEN = f"{WRITTEN}\n    ++ {WRITTEN}".format
 
@@ -61,21 +61,22 @@ SLIPS = [
     ("hour 23 counted", ("ControlHours", "leb (hour % 24) 22", "leb (hour % 24) 23")),
     ("hours counted from 1",
      ("ControlHours", "leb 17 (hour % 24) && leb (hour % 24) 22", "leb 16 (hour % 24) && leb (hour % 24) 21")),
-    ("the highest bit is day 1", ("ControlHours", "2 ^ day", "2 ^ (h .days - 1 - day)")),
+    ("the highest bit is day 1", ("ControlHours", "2 ^ day", "2 ^ (h.days - 1 - day)")),
     ("the lowest bit is no day", ("ControlHours", "2 ^ day", "2 ^ (day + 1)")),
     ("the average is over all hours",
-     ("Coefficients", USE_TO_A_HUNDREDTH, "average (hundredth * sum (p .outsideUse) (hours h)) (hours h)")),
+     ("Coefficients", USE_TO_A_HUNDREDTH, "average (hundredth * sum p.outside_use (hours h)) (hours h)")),
     ("the average rounded one place further first",
      ("ControlHours",
       "average (fineness * control_sum h series) (control_count h)",
       "rounded (average (10 * fineness * control_sum h series) (control_count h)) 10")),
 
     # bands
-    ("an edge belongs to the next band", ("Bands", "leb p (row .edge)", "ltb p (row .edge)")),
+    ("an edge belongs to the next band", ("Bands", "leb p row.edge", "ltb p row.edge")),
     ("for consumers edge 50 is 49",
      ("Consumers",
       "band_of (percent_of contract peak)",
-      "factor_of (up_to 49 0 ∷ up_to 200 13 ∷ up_to 400 15 ∷ up_to 500 17 ∷ up_to 501 20 ∷ []) (percent_of contract peak)"),
+      "factor_of (up_to 49 0 ∷ up_to 200 13 ∷ up_to 400 15 ∷ up_to 500 17 ∷ up_to 501 20 ∷ []) "
+      "(percent_of contract peak)"),
      ("Consumers",
       "band_of (percent m c)",
       "factor_of (up_to 49 0 ∷ up_to 200 13 ∷ up_to 400 15 ∷ up_to 500 17 ∷ up_to 501 20 ∷ []) (percent m c)")),
@@ -84,22 +85,23 @@ SLIPS = [
     ("rows cut in reverse",
      ("Cut",
       "excess m p - sum (own_volume m (sold m) p) j",
-      "excess m p - (sum (own_volume m (sold m) p) (m .header .rows) - sum (own_volume m (sold m) p) (j + 1))")),
+      "excess m p - (sum (own_volume m (sold m) p) m.header.rows - sum (own_volume m (sold m) p) (j + 1))")),
     ("rows cut in proportion",
      ("Cut",
-      "m .row j .volume - left_to_cut m (m .row j .producer) j",
-      "m .row j .volume - rounded (m .row j .volume * excess m (m .row j .producer)) (support_volume m (sold m) (m .row "
-      "j .producer) + bilateral_volume m (sold m) (m .row j .producer))")),
+      "(m.row j).volume - left_to_cut m (m.row j).producer j",
+      "(m.row j).volume - rounded ((m.row j).volume * excess m (m.row j).producer) "
+      "(support_volume m (sold m) (m.row j).producer + bilateral_volume m (sold m) (m.row j).producer)")),
     ("the cut taken from the actual volume",
      ("Rows",
       ACTUAL,
-      ACTUAL.replace("after_cut m j", "m .row j .volume") + " - left_to_cut m (m .row j .producer) j")),
+      ACTUAL.replace("(after_cut m j)", "(m.row j).volume") + " - left_to_cut m (m.row j).producer j")),
     ("support rows cut first",
      ("Cut",
       "excess m p - sum (own_volume m (sold m) p) j",
       "excess m p - cond (support m j) (sum (own_support m (sold m) p) j) (support_volume m (sold m) p + sum "
       "(own_bilateral m (sold m) p) j)")),
-    ("every row cut by the first producer's excess", ("Cut", "left_to_cut m (m .row j .producer) j", "left_to_cut m 0 j")),
+    ("every row cut by the first producer's excess",
+     ("Cut", "left_to_cut m (m.row j).producer j", "left_to_cut m 0 j")),
 
     # coefficients
     ("k1 of support and bilateral rows",
@@ -115,7 +117,9 @@ SLIPS = [
       "less_penalty T (penalty h p)",
       f"less_penalty (T * control_count h) (band_of ({P_OF_K1}) * {NOT_ROUNDED})")),
     ("k1's ratio rounded, then taken from 1",
-     ("Coefficients", "k1 h p T = millionths_of (exact_k1 h p T)", "k1 h p T = cond (eqb T 0) (millionths_of (exact_k1 h p T)) (one - share (penalty h p) (in_thousandths T))")),
+     ("Coefficients",
+      "k1 h p T = millionths_of (exact_k1 h p T)",
+      "k1 h p T = cond (eqb T 0) (millionths_of (exact_k1 h p T)) (one - share (penalty h p) (in_thousandths T))")),
     ("the band of k1 over T",
      ("Coefficients",
       "less_penalty T (penalty h p)",
@@ -125,26 +129,26 @@ SLIPS = [
     ("k1 counted twice", ("Coefficients", "k1 h p T ∷ k2 h p", "k1 h p T ∷ k1 h p T ∷ k2 h p")),
     ("k1 left out of bilateral rows",
      ("Rows",
-      "(factors m (m .row j .producer))",
-      "(drop (cond (support m j || single m (m .row j .producer)) 0 1) (factors m (m .row j .producer)))")),
+      "(factors m (m.row j).producer)",
+      "(drop (cond (support m j || single m (m.row j).producer) 0 1) (factors m (m.row j).producer))")),
     ("k1 left out of a single bilateral row",
      ("Rows",
-      "(begun m (m .row j .producer) (after_cut m j))",
-      "(cond (single m (m .row j .producer) && bilateral m j) (as_one_fraction (after_cut m j) (ratio 1 1) (exact_k4 (m "
-      ".header) (m .producer (m .row j .producer)) (capacity_after m (m .row j .producer)))) (begun m (m .row j "
-      ".producer) (after_cut m j)))")),
+      "(begun m (m.row j).producer (after_cut m j))",
+      "(cond (single m (m.row j).producer && bilateral m j) (as_one_fraction (after_cut m j) (ratio 1 1) "
+      "(exact_k4 m.header (m.producer (m.row j).producer) (capacity_after m (m.row j).producer))) "
+      "(begun m (m.row j).producer (after_cut m j)))")),
     ("the two bid ratios multiplied",
      ("Coefficients",
-      "share (hours h - max (p .noUpwardBid) (p .noDownwardBid)) (hours h)",
-      "rounded (share (hours h - p .noUpwardBid) (hours h) * share (hours h - p .noDownwardBid) (hours h)) one")),
+      "share (hours h - max p.no_upward_bid p.no_downward_bid) (hours h)",
+      "rounded (share (hours h - p.no_upward_bid) (hours h) * share (hours h - p.no_downward_bid) (hours h)) one")),
     ("the two bid counts added",
-     ("Coefficients", "max (p .noUpwardBid) (p .noDownwardBid)", "(p .noUpwardBid + p .noDownwardBid)")),
+     ("Coefficients", "max p.no_upward_bid p.no_downward_bid", "(p.no_upward_bid + p.no_downward_bid)")),
     ("S of k4 without bilateral rows",
-     ("Coefficients", S_AFTER, f"{T_AFTER} + m .producer p .deductible")),
+     ("Coefficients", S_AFTER, f"{T_AFTER} + (m.producer p).deductible")),
     ("S of k4 without deductible",
      ("Coefficients", S_AFTER, f"{T_AFTER} + bilateral_volume m (after_cut m) p")),
     ("k4 of the month's sums",
-     ("Coefficients", SUM_MET, f"(min {SUM_ASKED} (sum (p .working) (hours h)))")),
+     ("Coefficients", SUM_MET, f"(min {SUM_ASKED} (sum p.working (hours h)))")),
     ("k4 as a mean of hours",
      ("Coefficients",
       f"met_over {SUM_MET} {SUM_ASKED}",
@@ -153,7 +157,7 @@ SLIPS = [
      ("Coefficients",
       f"met_over {SUM_MET} {SUM_ASKED}",
       "met_over (control_sum h (met p S)) (control_sum h (asked p S))")),
-    ("k10 counted twice", ("Coefficients", "p .k10 ∷ []", "p .k10 ∷ p .k10 ∷ []")),
+    ("k10 counted twice", ("Coefficients", "p.k10 ∷ []", "p.k10 ∷ p.k10 ∷ []")),
 
     # rows
     ("coefficients multiplied with each other first",
@@ -162,49 +166,49 @@ SLIPS = [
      ("Rows", "running (rounded (product * k) one) ks", "running (product * k) ks"),
      ("Rows",
       IN_TENTHS,
-      "rounded (running product ks * covered .part) (covered .whole * 100000 * one ^ length ks)")),
+      "rounded (running product ks * covered.part) (covered.whole * 100000 * one ^ length ks)")),
     ("rounded to a tenth after each",
      ("Rows",
       "running (rounded (product * k) one) ks",
       "running (in_millionths (to_tenths (rounded (product * k) one))) ks")),
     ("every row by the first producer's coefficients",
-     ("Rows", THROUGH, THROUGH.replace("(m .row j .producer)", "0"))),
+     ("Rows", THROUGH, THROUGH.replace("(m.row j).producer", "0"))),
     ("payment from the volume after the cut", ("Rows", "money (actual m j)", "money (after_cut m j)")),
     ("the total paid rounded once",
      ("Totals",
-      "sum (payment m) (m .header .rows)",
-      "rounded (sum (λ j. actual m j * m .row j .price) (m .header .rows)) 10")),
+      "sum (payment m) m.header.rows",
+      "rounded (sum (λ j. actual m j * (m.row j).price) m.header.rows) 10")),
 
     # consumers
     ("credit from the volume after the cut", ("Consumers", "c) (actual m j)", "c) (after_cut m j)")),
     ("credit of support rows",
-     ("Consumers", "bilateral m j && eqb (m .row j .consumer) c", "support m j || eqb (m .row j .consumer) c")),
-    ("credit forgotten", ("Consumers", "m .consumer c .peak - credit m c", "m .consumer c .peak")),
+     ("Consumers", "bilateral m j && eqb (m.row j).consumer c", "support m j || eqb (m.row j).consumer c")),
+    ("credit forgotten", ("Consumers", "(m.consumer c).peak - credit m c", "(m.consumer c).peak")),
     ("credit forgotten in p",
      ("Consumers",
-      "percent_of (m .consumer c .contract) (counted_peak m c)",
-      "percent_of (m .consumer c .contract) (m .consumer c .peak)")),
+      "percent_of (m.consumer c).contract (counted_peak m c)",
+      "percent_of (m.consumer c).contract (m.consumer c).peak")),
     ("credit forgotten in the volume",
-     ("Consumers", "(m .consumer c) (counted_peak m c)", "(m .consumer c) (m .consumer c .peak)")),
+     ("Consumers", "(m.consumer c) (counted_peak m c)", "(m.consumer c) (m.consumer c).peak")),
     ("5 percent taken once", ("Consumers", "(over_contract contract peak - contract)", "over_contract contract peak")),
     ("p of the peak less DO",
      ("Consumers", "thousandths (over_contract contract peak)", "thousandths (20 * peak - 20 * contract)")),
     ("factors of point 59 rounded one by one",
      ("Consumers",
-      "rounded (bracket (c .contract) peak * mining days (c .supplier) * mining days (c .grid) * c .z)",
-      "rounded (rounded (rounded (rounded (bracket (c .contract) peak) 200 * mining days (c .supplier)) days * "
-      "mining days (c .grid)) days * c .z)"),
+      "rounded (bracket c.contract peak * mining days c.supplier * mining days c.grid * c.z)",
+      "rounded (rounded (rounded (rounded (bracket c.contract peak) 200 * mining days c.supplier) days * "
+      "mining days c.grid) days * c.z)"),
      ("Consumers", "(200 * days * days * 10)", "10")),
     ("mining days of both added",
-     ("Consumers", "mining days (c .supplier) * mining days (c .grid)", "mining days (c .supplier + c .grid) * days")),
+     ("Consumers", "mining days c.supplier * mining days c.grid", "mining days (c.supplier + c.grid) * days")),
     ("the total charged rounded once",
      ("Totals",
-      "sum (charge m) (m .header .consumers)",
-      "rounded (sum (λ c. volume m c * m .consumer c .price) (m .header .consumers)) 10")),
+      "sum (charge m) m.header.consumers",
+      "rounded (sum (λ c. volume m c * (m.consumer c).price) m.header.consumers) 10")),
 
     # sheet and result
     ("fields read little-endian",
-     ("Fields", "big_endian w s at * 256 + getD s (at + w) 0", "big_endian w s at + getD s (at + w) 0 * 256 ^ w")),
+     ("Fields", "big_endian w s at * 256 + get_or s (at + w) 0", "big_endian w s at + get_or s (at + w) 0 * 256 ^ w")),
     ("fields written little-endian",
      ("Fields", "bytes_of w (v / 256) ++ (v % 256 ∷ [])", "v % 256 ∷ bytes_of w (v / 256)")),
     ("the first row repeated", ("Result", "joined (row_record m)", "joined (λ j. row_record m 0)")),
@@ -214,8 +218,8 @@ SLIPS = [
     # modules that settle nothing
     ("every row settled at zero", ("Rows", ACTUAL, "0")),
     ("contract volumes copied",
-     ("Cut", "m .row j .volume - left_to_cut m (m .row j .producer) j", "m .row j .volume"),
-     ("Rows", ACTUAL, "m .row j .volume")),
+     ("Cut", "(m.row j).volume - left_to_cut m (m.row j).producer j", "(m.row j).volume"),
+     ("Rows", ACTUAL, "(m.row j).volume")),
     ("nothing written", ("Outcome", "(over (result_of (month_of s)) out)", "out")),
     ("the count invented", ("Outcome", "(result_length (header_of s))", "21")),
     ("every sheet turned down", ("Refusals", "refusal s room = first_of (tests s room)", "refusal s room = 12")),
@@ -226,9 +230,9 @@ SLIPS = [
     ("numbers tried row by row, then consumer by consumer",
      ("Refusals", "∷ some_row m high_row ∷ some_consumer m high_consumer ∷ []", "∷ some_row m high_row ∷ []"),
      ("Refusals",
-      "test 11 (one_of (some_row m (λ r. too_dear (r .price)) ∷ some_consumer m (λ c. too_dear (c .price)) ∷ []))",
-      "test 11 (some_row m (λ r. too_dear (r .price))) ∷ test 9 (some_consumer m high_consumer) ∷ test 11 (some_consumer "
-      "m (λ c. too_dear (c .price)))")),
+      "test 11 (one_of (some_row m (λ r. too_dear r.price) ∷ some_consumer m (λ c. too_dear c.price) ∷ []))",
+      "test 11 (some_row m (λ r. too_dear r.price)) ∷ test 9 (some_consumer m high_consumer) ∷ test 11 (some_consumer "
+      "m (λ c. too_dear c.price))")),
     ("numbers of the figures not tried",
      ("Refusals",
       "refusal s room = first_of (tests s room)",
@@ -243,25 +247,32 @@ SLIPS = [
     ("15 tested against the volumes before the list",
      ("Transfers", "overdrawn (after_entries v l i) (entry l i)", "overdrawn v (entry l i)")),
     ("15 tested against the volumes after the list",
-     ("Transfers", "overdrawn (after_entries v l i) (entry l i)", "overdrawn (after_entries v l (entries l)) (entry l i)")),
+     ("Transfers",
+      "overdrawn (after_entries v l i) (entry l i)",
+      "overdrawn (after_entries v l (entries l)) (entry l i)")),
     ("an unmet entry left out",
      ("Transfers",
       "moved (after_entries v l n) (entry l n)",
-      "cond (overdrawn (after_entries v l n) (entry l n)) (after_entries v l n) (moved (after_entries v l n) (entry l n))"),
+      "cond (overdrawn (after_entries v l n) (entry l n)) (after_entries v l n) "
+      "(moved (after_entries v l n) (entry l n))"),
      ("Transfers", "test 15 (any (overdrawn_at v l) (entries l)) ∷ []", "[]")),
     ("an unmet list applied",
      ("Transfers", "lent_after (transfer_refusal s l)", "lent_after (transfer_refusal s l % 15)")),
     ("14 tried before 13",
-     ("Transfers", "    test 13 (one_of (bad_front l ∷ some_entry l (bad_entry consumers) ∷ []))", "    test 14 (some_entry l late)"),
+     ("Transfers",
+      "    test 13 (one_of (bad_front l ∷ some_entry l (bad_entry consumers) ∷ []))",
+      "    test 14 (some_entry l late)"),
      ("Transfers",
       "    ∷ test 14 (some_entry l late)",
       "    ∷ test 13 (one_of (bad_front l ∷ some_entry l (bad_entry consumers) ∷ []))")),
     ("the sheet's numbers not tried", ("Transfers", "sheet_tests s ++ (list_tests", "(list_tests")),
-    ("7 tried of a sheet without a result buffer", ("Transfers", "sheet_tests s ++ (list_tests", "tests s 0 ++ (list_tests")),
+    ("7 tried of a sheet without a result buffer",
+     ("Transfers", "sheet_tests s ++ (list_tests", "tests s 0 ++ (list_tests")),
     ("consumers counted from 1",
      ("TransferList", "giver = big_endian 1 l (at + 1)", "giver = big_endian 1 l (at + 1) - 1"),
      ("TransferList", "taker = big_endian 1 l (at + 2)", "taker = big_endian 1 l (at + 2) - 1")),
-    ("the amount in megawatts", ("TransferList", "amount = big_endian 4 l (at + 3)", "amount = big_endian 4 l (at + 3) * 10")),
+    ("the amount in megawatts",
+     ("TransferList", "amount = big_endian 4 l (at + 3)", "amount = big_endian 4 l (at + 3) * 10")),
 
     # industrial complexes
     ("an hour below 0 taken off the others",
@@ -281,11 +292,11 @@ SLIPS = [
     ("the peak never lowered",
      ("Averaging",
       "(complex_peak (header_of s) r) s",
-      "(max (month_of s .consumer (complex r) .peak) (complex_peak (header_of s) r)) s")),
+      "(max ((month_of s).consumer (complex r)).peak (complex_peak (header_of s) r)) s")),
     ("the peak added to the one that stood there",
      ("Averaging",
       "(complex_peak (header_of s) r) s",
-      "(month_of s .consumer (complex r) .peak + complex_peak (header_of s) r) s")),
+      "(((month_of s).consumer (complex r)).peak + complex_peak (header_of s) r) s")),
     ("17 tried in control hours only",
      ("Averaging", "any (high_at r) (hours h)", "any (λ i. control_hour h i && high_at r i) (hours h)")),
     ("a record for fewer days than the month has",
@@ -320,20 +331,20 @@ SLIPS = [
     ("a contract of 0 with a peak at 20.00 percent", ("Text2015", "parts_of 2001", "parts_of 2000")),
     ("the credit taken off the peak",
      ("Text2015",
-      "factor_for (m .consumer c .contract) (m .consumer c .peak)",
-      "factor_for (m .consumer c .contract) (counted_peak m c)"),
+      "factor_for (m.consumer c).contract (m.consumer c).peak",
+      "factor_for (m.consumer c).contract (counted_peak m c)"),
      ("Text2015",
-      "volume_for (m .consumer c .contract) (m .consumer c .peak)",
-      "volume_for (m .consumer c .contract) (counted_peak m c)")),
+      "volume_for (m.consumer c).contract (m.consumer c).peak",
+      "volume_for (m.consumer c).contract (counted_peak m c)")),
     ("mining days applied under the text of 2015",
      ("Text2015",
-      "volume_for (m .consumer c .contract) (m .consumer c .peak)",
-      "rounded (volume_for (m .consumer c .contract) (m .consumer c .peak) * mining (m .header .days) (m .consumer c "
-      ".supplier) * mining (m .header .days) (m .consumer c .grid)) (m .header .days * m .header .days)")),
+      "volume_for (m.consumer c).contract (m.consumer c).peak",
+      "rounded (volume_for (m.consumer c).contract (m.consumer c).peak * mining m.header.days (m.consumer c).supplier "
+      "* mining m.header.days (m.consumer c).grid) (m.header.days * m.header.days)")),
     ("z applied under the text of 2015",
      ("Text2015",
-      "volume_for (m .consumer c .contract) (m .consumer c .peak)",
-      "rounded (volume_for (m .consumer c .contract) (m .consumer c .peak) * m .consumer c .z) 10")),
+      "volume_for (m.consumer c).contract (m.consumer c).peak",
+      "rounded (volume_for (m.consumer c).contract (m.consumer c).peak * (m.consumer c).z) 10")),
     ("the volume of the contract alone", ("Text2015", "rounded (contract * factor_for contract peak) 10", "contract")),
     ("the factor on the peak",
      ("Text2015", "contract * factor_for contract peak", "max contract peak * factor_for contract peak")),
@@ -343,8 +354,8 @@ SLIPS = [
       "contract + rounded ((peak - contract) * factor_for contract peak) 10")),
     ("the charge from the volume before it is rounded",
      ("Text2015",
-      "money (volume_2015 m c) (m .consumer c .price)",
-      "rounded (m .consumer c .contract * factor_2015 m c * m .consumer c .price) 100")),
+      "money (volume_2015 m c) (m.consumer c).price",
+      "rounded ((m.consumer c).contract * factor_2015 m c * (m.consumer c).price) 100")),
     ("the room of the settlement's result asked for",
      ("Outcome2015", "tests_for (length_2015 (header_of s))", "tests_for (result_length (header_of s))")),
     ("a version behind the length, as in the settlement's result",
@@ -356,9 +367,9 @@ SLIPS = [
      ("Outcome2015", "refusal_2015 s room = first_of (tests_2015 s room)", "refusal_2015 s room = 12")),
 
     # contracts that begin inside a month
-    ("days covered one too few", ("Rows", "suc (r .last) - r .first", "r .last - r .first")),
-    ("the days before the first day", ("Rows", "suc (r .last) - r .first", "r .first - 1")),
-    ("the share over 30 days in every month", ("Rows", "- r .first) days", "- r .first) 30")),
+    ("days covered one too few", ("Rows", "suc r.last - r.first", "r.last - r.first")),
+    ("the days before the first day", ("Rows", "suc r.last - r.first", "r.first - 1")),
+    ("the share over 30 days in every month", ("Rows", "- r.first) days", "- r.first) 30")),
     ("the share taken before k1, in a single row before k2",
      ("Rows", IN_TENTHS, "to_tenths (running (for_days covered product) ks)")),
     ("the share taken before k10",
@@ -367,17 +378,17 @@ SLIPS = [
       "to_tenths (running (for_days covered (running product (take (length ks - 1) ks))) (drop (length ks - 1) ks))")),
     ("the share taken after the tenth", ("Rows", IN_TENTHS, "for_days covered (to_tenths (running product ks))")),
     ("the share not rounded to a millionth",
-     ("Rows", IN_TENTHS, "rounded (running product ks * covered .part) (covered .whole * 100000)")),
+     ("Rows", IN_TENTHS, "rounded (running product ks * covered.part) (covered.whole * 100000)")),
     ("the share rounded to a millionth before it is taken",
-     ("Rows", "rounded (product * covered .part) (covered .whole)",
-      "rounded (product * rounded (one * covered .part) (covered .whole)) one")),
+     ("Rows", "rounded (product * covered.part) covered.whole",
+      "rounded (product * rounded (one * covered.part) covered.whole) one")),
     ("T of the covered days", ("Coefficients", T_AFTER, f"support_volume m {FOR_DAYS('after_cut')} p")),
     ("S of the covered days", ("Coefficients", S_AFTER, f"summed_capacity m {FOR_DAYS('after_cut')} p")),
     ("the cut of the covered days",
      ("Cut", "excess m p = summed_capacity m (sold m) p", f"excess m p = summed_capacity m {FOR_DAYS('sold')} p")),
     ("the price divided by the days too",
-     ("Rows", "money (actual m j) (m .row j .price)",
-      "for_days (days_covered (m .header .days) (m .row j)) (money (actual m j) (m .row j .price))")),
+     ("Rows", "money (actual m j) (m.row j).price",
+      "for_days (days_covered m.header.days (m.row j)) (money (actual m j) (m.row j).price)")),
     ("the credit of the month",
      ("Consumers", "c) (actual m j)", f"c) ({THROUGH} (ratio 1 1))")),
     ("version 2 read with rows of 10 bytes", ("Sheet", "cond (states_days l) 12 10", "10")),
@@ -386,20 +397,20 @@ SLIPS = [
       "price = big_endian 4 s (at + cond (states_days l) 8 6);\n      first = day_at l s (at + 6) 1"),
      ("Sheet", "day_at l s (at + 11)", "day_at l s (at + 7)")),
     ("a version 1 row covers 30 days of 31",
-     ("Sheet", "day_at l s (at + 11) (l .header .days)", "day_at l s (at + 11) (min (l .header .days) 30)")),
+     ("Sheet", "day_at l s (at + 11) l.header.days", "day_at l s (at + 11) (min l.header.days 30)")),
     ("version 1 turned down", ("Refusals", "ltb (version s) 1", "ltb (version s) 2")),
     ("18 tried before 12",
-     ("Refusals", "test 12 (some_consumer m (bad_factor (m .header)))", "test 18 (some_row m (bad_days (m .header)))"),
+     ("Refusals", "test 12 (some_consumer m (bad_factor m.header))", "test 18 (some_row m (bad_days m.header))"),
      ("Refusals",
-      "test 18 (some_row m (bad_days (m .header)))\n    ∷ []",
-      "test 12 (some_consumer m (bad_factor (m .header)))\n    ∷ []")),
+      "test 18 (some_row m (bad_days m.header))\n    ∷ []",
+      "test 12 (some_consumer m (bad_factor m.header))\n    ∷ []")),
     ("18 not tried of a sheet with a list",
      ("Transfers", "sheet_tests s ++ (list_tests", f"form_tests s ++ {BEFORE_18} ++ (list_tests")),
     ("18 tried after a list's numbers",
      ("Transfers",
-      "sheet_tests s ++ (list_tests (header_of s .consumers) l ++ turn_tests (contracts (month_of s)) l)",
-      f"form_tests s ++ {BEFORE_18} ++ (list_tests (header_of s .consumers) l ++ turn_tests (contracts (month_of s)) l) ++ "
-      f"{ALONE_18}")),
+      "sheet_tests s ++ (list_tests (header_of s).consumers l ++ turn_tests (contracts (month_of s)) l)",
+      f"form_tests s ++ {BEFORE_18} ++ (list_tests (header_of s).consumers l ++ turn_tests (contracts (month_of s)) l) "
+      f"++ {ALONE_18}")),
     ("18 tried after a record's numbers",
      ("Averaging",
       "sheet_tests s ++ record_tests (header_of s) r",
@@ -411,16 +422,16 @@ SLIPS = [
 
     # outside use to a hundredth
     ("the average of outside use still rounded to a tenth",
-     ("Coefficients", USE_TO_A_HUNDREDTH, "in_hundredths (control_average tenth h (p .outsideUse))")),
+     ("Coefficients", USE_TO_A_HUNDREDTH, "in_hundredths (control_average tenth h p.outside_use)")),
     ("the average of outside use rounded down to a hundredth",
-     ("Coefficients", USE_TO_A_HUNDREDTH, "hundredth * control_sum h (p .outsideUse) / control_count h")),
+     ("Coefficients", USE_TO_A_HUNDREDTH, "hundredth * control_sum h p.outside_use / control_count h")),
     ("deductible in tenths beside hundredths, in D", TENTHS_IN_D),
     ("deductible in tenths beside hundredths, in p", TENTHS_IN_P),
     ("deductible in tenths beside hundredths, in D and p", TENTHS_IN_D, TENTHS_IN_P),
     ("p from the average to a tenth",
-     ("Coefficients", P_OF_K1, "thousandths (control_average tenth h (p .outsideUse) - p .deductible) (p .deductible)")),
+     ("Coefficients", P_OF_K1, "thousandths (control_average tenth h p.outside_use - p.deductible) p.deductible")),
     ("p from D rounded to a tenth",
-     ("Coefficients", P_OF_K1, "thousandths (rounded (overuse h p) 10) (p .deductible)")),
+     ("Coefficients", P_OF_K1, "thousandths (rounded (overuse h p) 10) p.deductible")),
     ("n × D from D rounded to a tenth",
      ("Coefficients", "* overuse h p", "* in_hundredths (rounded (overuse h p) 10)")),
     ("n × D a tenth of what it is", ("Units", f"{IN_THOUSANDTHS} 100", f"{IN_THOUSANDTHS} 1000")),
@@ -428,7 +439,7 @@ SLIPS = [
     ("n × D rounded to a hundredth",
      ("Coefficients", f"band_of ({P_OF_K1}) * overuse h p", f"10 * rounded (band_of ({P_OF_K1}) * overuse h p) 10")),
     ("deductible in hundredths, in S",
-     ("Cut", "+ m .producer p .deductible", "+ in_hundredths (m .producer p .deductible)")),
+     ("Cut", "+ (m.producer p).deductible", "+ in_hundredths (m.producer p).deductible")),
     ("a complex's peak in hundredths",
      ("Averaging", COMPLEX_PEAK, "control_average hundredth h (net r) - in_hundredths (imported r)")),
     ("a complex's average rounded to a hundredth, then to a tenth",
@@ -441,21 +452,21 @@ SLIPS = [
      ("Sheet", f"possible = {SECOND}; outside = {THIRD}", f"possible = {THIRD}; outside = {SECOND}")),
     ("outside uses in the first column, working powers in the third",
      ("Sheet", f"working = {FIRST};", f"working = {THIRD};"), ("Sheet", f"outside = {THIRD}", f"outside = {FIRST}")),
-    ("hour by hour in version 3", ("Sheet", "cond (by_column l) (columns (l .header)) triples", "triples")),
-    ("the second column begun a byte late", ("Sheet", SECOND, "series (96 * h .days + 1) 4")),
-    ("the second column begun an hour late", ("Sheet", SECOND, "series (96 * h .days + 4) 4")),
-    ("the third column begun a byte late", ("Sheet", THIRD, "series (192 * h .days + 1) 4")),
-    ("the third column begun an hour late", ("Sheet", THIRD, "series (192 * h .days + 4) 4")),
+    ("hour by hour in version 3", ("Sheet", "cond (by_column l) (columns l.header) triples", "triples")),
+    ("the second column begun a byte late", ("Sheet", SECOND, "series (96 * h.days + 1) 4")),
+    ("the second column begun an hour late", ("Sheet", SECOND, "series (96 * h.days + 4) 4")),
+    ("the third column begun a byte late", ("Sheet", THIRD, "series (192 * h.days + 1) 4")),
+    ("the third column begun an hour late", ("Sheet", THIRD, "series (192 * h.days + 4) 4")),
     ("columns of 31 days in every month", ("Sheet", SECOND, "series 2976 4"), ("Sheet", THIRD, "series 5952 4")),
     ("version 3 read with rows of 10 bytes",
-     ("Sheet", "states_days l = ltb 1 (l .version)", "states_days l = eqb (l .version) 2")),
+     ("Sheet", "states_days l = ltb 1 l.version", "states_days l = eqb l.version 2")),
     ("a row of version 3 covers the month",
-     ("Sheet", "otherwise = cond (states_days l)", "otherwise = cond (eqb (l .version) 2)")),
+     ("Sheet", "otherwise = cond (states_days l)", "otherwise = cond (eqb l.version 2)")),
     ("version 3 turned down", ("Refusals", "ltb 3 (version s)", "ltb 2 (version s)")),
     ("version 4 accepted", ("Refusals", "ltb 3 (version s)", "ltb 4 (version s)")),
     ("by column already in version 2", ("Sheet", "by_column l = ltb 2", "by_column l = ltb 1")),
     ("9 not tried of the third column",
-     ("Refusals", "∷ too_high (p .possible hour) ∷ too_high (p .outsideUse hour)", "∷ too_high (p .possible hour)")),
+     ("Refusals", "∷ too_high (p.possible hour) ∷ too_high (p.outside_use hour)", "∷ too_high (p.possible hour)")),
     ("a list writes peaks in version 3",
      ("Sheet", "contract_at l c = consumer_at l c", "contract_at l c = consumer_at l c + cond (by_column l) 4 0")),
     ("a record writes a contract volume in version 3",
@@ -471,7 +482,7 @@ SLIPS = [
     ("rearranged with an hour too few", ("Sheet", "(power_at at x i) 4) n", "(power_at at x i) 4) (n - 1)")),
     ("rearranged from the second hour on", ("Sheet", "(power_at at x i) 4)", "(power_at at x (suc i)) 4)")),
     ("only the version rearranged",
-     ("Sheet", "joined (in_columns (layout_of s) s) (header_of s .producers)",
+     ("Sheet", "joined (in_columns (layout_of s) s) (header_of s).producers",
       "bytes_from s header_width (row_at (layout_of s) 0 - header_width)")),
     ("the first producer's columns for each",
      ("Sheet", "joined (in_columns (layout_of s) s)", "joined (λ p. in_columns (layout_of s) s 0)")),
@@ -491,21 +502,23 @@ SLIPS = [
     ("the one fraction rounded only after k2 and k3",
      ("Rows",
       K4_EXACT,
-      f"(ratio ({K4_EXACT} .part * (k2 {OF_PRODUCER} * m .producer p .k3)) ({K4_EXACT} .whole * (one * one)))"),
+      f"(ratio ({K4_EXACT}.part * (k2 {OF_PRODUCER} * (m.producer p).k3)) ({K4_EXACT}.whole * (one * one)))"),
      ("Rows", FOLLOWING, f"(from_k5 {OF_PRODUCER})")),
     ("the one fraction rounded only after k2",
-     ("Rows", K4_EXACT, f"(ratio ({K4_EXACT} .part * k2 {OF_PRODUCER}) ({K4_EXACT} .whole * one))"),
+     ("Rows", K4_EXACT, f"(ratio ({K4_EXACT}.part * k2 {OF_PRODUCER}) ({K4_EXACT}.whole * one))"),
      ("Rows", FOLLOWING, f"(drop 1 (others {OF_PRODUCER}))")),
     ("the one fraction rounded down",
      ("Rows",
-      "rounded (in_millionths volume * (a .part * b .part)) (a .whole * b .whole)",
-      "in_millionths volume * (a .part * b .part) / (a .whole * b .whole)")),
+      "rounded (in_millionths volume * (a.part * b.part)) (a.whole * b.whole)",
+      "in_millionths volume * (a.part * b.part) / (a.whole * b.whole)")),
     ("half a millionth of the one fraction rounded down",
      ("Rows",
-      "rounded (in_millionths volume * (a .part * b .part)) (a .whole * b .whole)",
-      "(in_millionths volume * (a .part * b .part) + (a .whole * b .whole - 1) / 2) / (a .whole * b .whole)")),
+      "rounded (in_millionths volume * (a.part * b.part)) (a.whole * b.whole)",
+      "(in_millionths volume * (a.part * b.part) + (a.whole * b.whole - 1) / 2) / (a.whole * b.whole)")),
     ("the one fraction of the volume before the cut",
-     ("Rows", "(as_one_fraction volume", "(as_one_fraction (support_volume m (sold m) p + bilateral_volume m (sold m) p)")),
+     ("Rows",
+      "(as_one_fraction volume",
+      "(as_one_fraction (support_volume m (sold m) p + bilateral_volume m (sold m) p)")),
     ("the one fraction for producers with more rows too", ("Cut", IS_SINGLE, "ltb 0 (row_count m p)")),
     ("a row of volume 0 not counted as a row", ("Cut", COUNTED, "when (owns m p j && ltb 0 (sold m j)) 1")),
     ("a row cut whole not counted as a row",
