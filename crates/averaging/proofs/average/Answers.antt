@@ -2,7 +2,6 @@ use mathlib.Core.Path.{◌≡◌, sym, ◌∙◌}
 use Rattle.rules.specs.Refusals.{sheet_tests, first_of}
 use Rattle.rules.specs.Averaging.{record_tests}
 use Rattle.averaging.proofs.Answered.{own_refused, record_refused, whole_month, whole_sheet, written_there}
-use borrow.Author.Rules.{rules}
 use Rattle.averaging.proofs.average.Goals.{After-complex, After-complex_peak-arg-1, After-slice_known-2-1, Then-number-ne0}
 use Rattle.averaging.proofs.average.Goals as goal
 

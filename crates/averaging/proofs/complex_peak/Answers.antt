@@ -1,6 +1,5 @@
 use mathlib.Core.Path.{◌∙◌}
 use Rattle.averaging.proofs.Peak.{peak_known}
-use borrow.Author.Rules.{rules}
 use Rattle.averaging.proofs.complex_peak.Goals as goal
 
 pub returns : goal.returns

@@ -7,7 +7,6 @@ use Rattle.rules.specs.Sheet.{with_peak}
 use Rattle.laws.proofs.Fields.{length-bytes_of}
 use Rattle.laws.proofs.Sheet.{consumer_inside}
 use Rattle.writing.proofs.Lent.{placed_at}
-use borrow.Author.Rules.{rules}
 use Rattle.averaging.proofs.write_peak.Goals.{After-peak_at-at, After-slice_known-2-1}
 use Rattle.averaging.proofs.write_peak.Goals as goal
 

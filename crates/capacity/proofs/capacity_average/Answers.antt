@@ -1,6 +1,5 @@
 use Rattle.rules.specs.Averaging.{average_outcome}
 use Rattle.capacity.proofs.Signed.{done_small, handed_on}
-use borrow.Author.Rules.{rules}
 use Rattle.capacity.proofs.capacity_average.Goals as goal
 
 pub in_c-requires : goal.in_c-requires

@@ -1,5 +1,4 @@
 use Rattle.capacity.proofs.Signed.{settled_small, handed_on}
-use borrow.Author.Rules.{rules}
 use Rattle.capacity.proofs.capacity_settle.Goals as goal
 
 pub in_c-requires : goal.in_c-requires

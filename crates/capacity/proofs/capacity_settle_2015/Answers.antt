@@ -1,5 +1,4 @@
 use Rattle.capacity.proofs.Signed.{settled_2015_small, handed_on}
-use borrow.Author.Rules.{rules}
 use Rattle.capacity.proofs.capacity_settle_2015.Goals as goal
 
 pub in_c-requires : goal.in_c-requires

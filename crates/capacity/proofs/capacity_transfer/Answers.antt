@@ -1,6 +1,5 @@
 use Rattle.rules.specs.Transfers.{transfer_outcome}
 use Rattle.capacity.proofs.Signed.{done_small, handed_on}
-use borrow.Author.Rules.{rules}
 use Rattle.capacity.proofs.capacity_transfer.Goals as goal
 
 pub in_c-requires : goal.in_c-requires

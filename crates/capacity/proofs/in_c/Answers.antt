@@ -4,7 +4,6 @@ use Prim.Native.Nat.{◌<◌}
 use Rattle.rules.specs.Said.{said}
 use Rattle.capacity.specs.InC.{in_c, counted, count_end}
 use Rattle.capacity.proofs.Signed.{number_fits, number_back, count_fits, count_back}
-use borrow.Author.Rules.{rules}
 use Rattle.capacity.proofs.in_c.Goals.{In-Written}
 use Rattle.capacity.proofs.in_c.Goals as goal
 

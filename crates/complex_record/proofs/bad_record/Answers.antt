@@ -7,7 +7,6 @@ use lib.ListN.{length}
 use Rattle.rules.specs.Refusals.{one_of}
 use Rattle.rules.specs.ComplexRecord.{record_length}
 use Rattle.rules.specs.Averaging.{bad_record}
-use borrow.Author.Rules.{rules}
 use Rattle.complex_record.proofs.bad_record.Goals as goal
 
 pub returns-then-rec-lt9 : goal.returns-then-rec-lt9

@@ -1,5 +1,4 @@
 use Rattle.rules.specs.ComplexRecord.{complex}
-use borrow.Author.Rules.{rules}
 use Rattle.complex_record.proofs.complex.Goals as goal
 
 pub returns : goal.returns

@@ -1,5 +1,4 @@
 use Rattle.rules.specs.ComplexRecord.{imported}
-use borrow.Author.Rules.{rules}
 use Rattle.complex_record.proofs.imported.Goals as goal
 
 pub returns : goal.returns

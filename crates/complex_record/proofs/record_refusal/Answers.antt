@@ -5,7 +5,6 @@ use Rattle.rules.specs.Refusals.{first_of}
 use Rattle.rules.specs.Averaging.{bad_record, record_tests}
 use Rattle.laws.proofs.Averaging.{WholeRecord, whole_record}
 use Rattle.complex_record.proofs.Powers.{powers_high}
-use borrow.Author.Rules.{rules}
 use Rattle.complex_record.proofs.record_refusal.Goals.{After-first, Else-bad_record}
 use Rattle.complex_record.proofs.record_refusal.Goals as goal
 

@@ -1,20 +1,13 @@
-use borrow.Author.Rules.{rules}
-use native.Mathlib.Omega.{arith}
-use mathlib.Core.Path.{◌≡◌, ap}
-use Prim.Native.Nat.{ℕ, ◌-◌, ◌≤◌, ◌<◌, zero-le}
-use native.Mathlib.Nat.{le_trans}
+use mathlib.Core.Path.{◌≡◌}
+use Prim.Native.Nat.{ℕ, ◌-◌, ◌≤◌, ◌<◌}
 use lib.ListN.{length}
 use Rattle.rules.specs.Sheet.{sheet_length, month_under}
-use Rattle.laws.proofs.Sheet.{hours_inside}
 use Rattle.rules.specs.ControlTable.{table_day}
-use Rattle.laws.proofs.Arrays.{Agrees, filled, agrees_as, agrees_listed, listed_agrees, filled_none, filled_more}
+use Rattle.laws.proofs.Arrays.{Agrees, filled}
 use Rattle.calendar.specs.Days.{day_on}
 use Rattle.refusals_sheet.specs.Numbers.{high_hours}
-use Rattle.volumes.specs.Volumes.{no_volumes}
-use Rattle.volumes.proofs.Turns.{volumes_whole}
 use Rattle.producers.specs.Terms.{no_terms, zero_terms, own_terms, with_terms}
-use Rattle.producers.specs.declared.OwnTerms.{OwnTerms}
-use Rattle.producers.proofs.Cuts.{VolumesKnown, none_tried, tried_more}
+use Rattle.producers.proofs.Cuts.{VolumesKnown}
 use Rattle.producers.proofs.all_terms.Given as goal
 
 abbrev pub invariant-loop-p : goal.invariant-loop-p

@@ -5,7 +5,6 @@ use Rattle.refusals_powers.specs.Powers.{high_powers}
 use Rattle.hours.specs.declared.figures.HourFigures.{HourFigures}
 use Rattle.hours.proofs.Found.{high_found, sums_found, average_found}
 use Rattle.producers.proofs.Hours.{sums_known, average_is, met_fits}
-use borrow.Author.Rules.{rules}
 use Rattle.producers.proofs.hours_of.Goals as goal
 
 pub returns : goal.returns

@@ -1,5 +1,4 @@
 use native.Mathlib.Omega.{arith}
-use borrow.Author.Rules.{rules}
 use Rattle.producers.proofs.ks_of.Goals as goal
 
 pub overflow_cast-result-5 : goal.overflow_cast-result-5

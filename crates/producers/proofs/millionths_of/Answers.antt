@@ -1,6 +1,5 @@
 use mathlib.Core.Path.{sym, ◌∙◌}
 use Rattle.laws.proofs.Coefficients.{ratio_is}
-use borrow.Author.Rules.{rules}
 use Rattle.producers.proofs.millionths_of.Goals as goal
 
 pub returns : goal.returns

@@ -1,4 +1,3 @@
-use borrow.Author.Rules.{rules}
 use Rattle.producers.proofs.single_factors.Goals as goal
 
 pub returns : goal.returns

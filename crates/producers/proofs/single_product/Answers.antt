@@ -7,7 +7,6 @@ use Rattle.rules.specs.Refusals.{too_high}
 use Rattle.laws.specs.ShortForm.{in_short}
 use Rattle.laws.proofs.Refusals.{clear_high}
 use Rattle.producers.specs.Terms.{single_product}
-use borrow.Author.Rules.{rules}
 use Rattle.producers.proofs.single_product.Goals as goal
 
 pub returns-then-volume-gt-CEILING : goal.returns-then-volume-gt-CEILING

@@ -7,7 +7,6 @@ use lib.Dec.{eqb}
 use lib.ListN.{length}
 use Rattle.rules.specs.declared.Layout.{Layout}
 use Rattle.rules.specs.Units.{one}
-use Rattle.rules.specs.Month.{Month}
 use Rattle.rules.specs.Sheet.{hours_width, hours_at, producer_at, stated_of, month_under}
 use Rattle.rules.specs.Cut.{excess}
 use Rattle.rules.specs.Coefficients.{penalty, exact_k4, capacity_after}
@@ -18,7 +17,6 @@ use Rattle.sheet.proofs.Whole.{stated_whole}
 use Rattle.volumes.specs.declared.Volumes.{Volumes}
 use Rattle.producers.specs.Terms.{most_met, ks_from, single_factors, high_in, HoursKnown}
 use Rattle.producers.proofs.Cuts.{excess_is, left_is, capacity_is, own_known, ks_known, penalty_known, single_known, shared_known, support_fits, part_fits}
-use borrow.Author.Rules.{rules}
 use Rattle.producers.proofs.terms_of.Goals.{After-penalty_of-arg-1, After-shared_factors-arg-1, After-shared_factors-by, After-single_factors-by, After-struct_known-then-v-eq1-1, Else-v-eq1}
 use Rattle.producers.proofs.terms_of.Goals as goal
 

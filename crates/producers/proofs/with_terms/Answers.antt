@@ -13,7 +13,6 @@ use Rattle.rules.specs.ControlTable.{in_table}
 use Rattle.laws.proofs.Range.{or_left, or_right}
 use Rattle.laws.proofs.ControlTable.{in_table_means}
 use Rattle.producers.specs.Terms.{with_terms}
-use borrow.Author.Rules.{rules}
 use Rattle.producers.proofs.with_terms.Goals as goal
 
 -- A sheet that is whole, of a month that the table has.

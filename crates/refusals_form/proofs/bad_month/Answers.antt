@@ -1,6 +1,5 @@
 use mathlib.Core.Bool.{or-false}
 use Rattle.rules.specs.Refusals.{one_of, bad_month}
-use borrow.Author.Rules.{rules}
 use Rattle.refusals_form.proofs.bad_month.Goals as goal
 
 pub returns : goal.returns

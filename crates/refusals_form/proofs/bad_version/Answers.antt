@@ -1,7 +1,6 @@
 use mathlib.Core.Bool.{or-false}
 use Rattle.rules.specs.Sheet.{version}
 use Rattle.rules.specs.Refusals.{one_of, bad_version}
-use borrow.Author.Rules.{rules}
 use Rattle.refusals_form.proofs.bad_version.Goals as goal
 
 pub returns : goal.returns

@@ -2,7 +2,6 @@ use mathlib.Core.Path.{sym, ◌∙◌}
 use Rattle.rules.specs.Sheet.{length_field}
 use Rattle.rules.specs.Refusals.{form_tests}
 use Rattle.laws.proofs.Refusals.{first_stands, first_next, front_numbered}
-use borrow.Author.Rules.{rules}
 use Rattle.refusals_form.proofs.form_refusal.Goals as goal
 
 pub returns-then-front-ne0 : goal.returns-then-front-ne0

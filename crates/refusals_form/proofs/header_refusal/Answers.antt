@@ -1,5 +1,4 @@
 use Rattle.rules.specs.Refusals.{header_tests, first_of}
-use borrow.Author.Rules.{rules}
 use Rattle.refusals_form.proofs.header_refusal.Goals as goal
 
 pub returns : goal.returns

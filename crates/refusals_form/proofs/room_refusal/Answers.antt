@@ -1,5 +1,4 @@
 use Rattle.rules.specs.Refusals.{room_tests, first_of}
-use borrow.Author.Rules.{rules}
 use Rattle.refusals_form.proofs.room_refusal.Goals as goal
 
 pub returns : goal.returns

@@ -1,8 +1,7 @@
 use native.Mathlib.Omega.{arith}
-use mathlib.Core.Path.{◌≡◌, sym, ◌∙◌}
-use Prim.Native.Nat.{◌-◌, ◌≤◌, zero-le}
+use mathlib.Core.Path.{sym, ◌∙◌}
+use Prim.Native.Nat.{zero-le}
 use Rattle.laws.proofs.Range.{any_start, any_fold, any_done}
-use Rattle.refusals_powers.specs.Powers.{front_from}
 use Rattle.refusals_powers.specs.Fours.{front_word}
 use Rattle.refusals_powers.proofs.Fours.{front_joined, front_told}
 use Rattle.refusals_powers.proofs.bits_on.Goals as goal

@@ -1,13 +1,9 @@
 use native.Mathlib.Omega.{arith}
-use Prim.Native.Nat.{◌-◌, ◌*◌, ◌≤◌}
 use lib.Dec.{leb}
-use mathlib.Core.Path.{◌≡◌, ◌∙◌}
+use mathlib.Core.Path.{◌∙◌}
 use Rattle.laws.proofs.Range.{any_done}
-use Rattle.refusals_powers.specs.Powers.{front_from}
-use Rattle.refusals_powers.specs.Fours.{front}
 use Rattle.refusals_powers.proofs.Powers.{some_more}
 use Rattle.refusals_powers.proofs.Fours.{four_none}
-use borrow.Author.Rules.{rules}
 use Rattle.refusals_powers.proofs.blocks_on.Goals as goal
 
 pub loop-b-init : goal.loop-b-init

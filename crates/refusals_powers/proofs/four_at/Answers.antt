@@ -1,5 +1,4 @@
 use Rattle.refusals_powers.proofs.Fours.{four_read}
-use borrow.Author.Rules.{rules}
 use Rattle.refusals_powers.proofs.four_at.Goals as goal
 
 pub returns : goal.returns

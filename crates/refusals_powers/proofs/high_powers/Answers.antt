@@ -7,7 +7,6 @@ use lib.ListN.{length}
 use Rattle.rules.specs.Range.{any}
 use Rattle.refusals_powers.specs.Powers.{high_power, high_from, high_powers}
 use Rattle.refusals_powers.proofs.Powers.{powers_more}
-use borrow.Author.Rules.{rules}
 use Rattle.refusals_powers.proofs.high_powers.Goals as goal
 
 -- The first blocks have none above the ceiling: what is found of the others is found of all.

@@ -6,7 +6,6 @@ use Rattle.refusals_powers.specs.Powers.{high_powers}
 use Rattle.refusals_powers.specs.Fours.{front_word}
 use Rattle.refusals_powers.proofs.Powers.{from_start}
 use Rattle.refusals_powers.proofs.Fours.{front_none}
-use borrow.Author.Rules.{rules}
 use Rattle.refusals_powers.proofs.high_together.Goals as goal
 
 pub returns-then-bits_on-eq0 : goal.returns-then-bits_on-eq0

@@ -1,14 +1,9 @@
 use native.Mathlib.Omega.{arith}
-use mathlib.Core.Path.{◌≡◌, sym, ◌∙◌}
-use mathlib.Core.Bool.{false}
-use Prim.Native.Nat.{◌*◌, ◌/◌, ◌-◌, ◌≤◌, zero-le}
-use lib.ListN.{length}
-use Rattle.rules.specs.Range.{any}
+use mathlib.Core.Path.{sym, ◌∙◌}
+use Prim.Native.Nat.{zero-le}
 use Rattle.laws.proofs.Range.{any_start}
-use Rattle.refusals_powers.specs.Powers.{high_power}
 use Rattle.refusals_powers.proofs.Powers.{powers_more}
 use Rattle.refusals_powers.proofs.Fours.{front_none}
-use borrow.Author.Rules.{rules}
 use Rattle.refusals_powers.proofs.low_blocks.Goals as goal
 
 pub loop-b-init : goal.loop-b-init

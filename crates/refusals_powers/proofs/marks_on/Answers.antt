@@ -1,10 +1,7 @@
-use borrow.Author.Rules.{rules}
 use native.Mathlib.Omega.{arith}
-use mathlib.Core.Path.{◌≡◌, sym, ◌∙◌}
-use Prim.Native.Nat.{◌-◌, ◌≤◌, zero-le}
+use mathlib.Core.Path.{sym, ◌∙◌}
+use Prim.Native.Nat.{zero-le}
 use Rattle.laws.proofs.Range.{any_start, any_fold, any_done}
-use Rattle.refusals_powers.specs.Powers.{high_from}
-use Rattle.refusals_powers.specs.Marks.{marked}
 use Rattle.refusals_powers.proofs.Told.{none_told}
 use Rattle.refusals_powers.proofs.marks_on.Goals as goal
 

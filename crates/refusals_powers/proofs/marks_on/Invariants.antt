@@ -1,11 +1,7 @@
-use borrow.Author.Rules.{rules}
-use native.Mathlib.Omega.{arith}
-use mathlib.Core.Path.{◌≡◌, sym, ◌∙◌}
-use Prim.Native.Nat.{◌-◌, ◌≤◌, zero-le}
-use Rattle.laws.proofs.Range.{any_start, any_fold, any_done}
+use mathlib.Core.Path.{◌≡◌}
+use Prim.Native.Nat.{◌-◌, ◌≤◌}
 use Rattle.refusals_powers.specs.Powers.{high_from}
 use Rattle.refusals_powers.specs.Marks.{marked}
-use Rattle.refusals_powers.proofs.Told.{none_told}
 use Rattle.refusals_powers.proofs.marks_on.Given as goal
 
 abbrev pub invariant-loop-i : goal.invariant-loop-i

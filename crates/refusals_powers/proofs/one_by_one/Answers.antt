@@ -1,10 +1,8 @@
-use borrow.Author.Rules.{rules}
 use native.Mathlib.Omega.{arith}
-use mathlib.Core.Path.{◌≡◌, sym, ap, ◌∙◌}
-use Prim.Native.Nat.{◌-◌, ◌≤◌, zero-le}
+use mathlib.Core.Path.{sym, ap, ◌∙◌}
+use Prim.Native.Nat.{zero-le}
 use Rattle.laws.proofs.Range.{any_start, any_fold, any_done}
 use Rattle.rules.specs.Refusals.{too_high}
-use Rattle.refusals_powers.specs.Powers.{high_from}
 use Rattle.refusals_powers.proofs.one_by_one.Goals as goal
 
 pub loop-i-init : goal.loop-i-init

@@ -1,9 +1,5 @@
-use borrow.Author.Rules.{rules}
-use native.Mathlib.Omega.{arith}
-use mathlib.Core.Path.{◌≡◌, sym, ap, ◌∙◌}
-use Prim.Native.Nat.{◌-◌, ◌≤◌, zero-le}
-use Rattle.laws.proofs.Range.{any_start, any_fold, any_done}
-use Rattle.rules.specs.Refusals.{too_high}
+use mathlib.Core.Path.{◌≡◌}
+use Prim.Native.Nat.{◌-◌, ◌≤◌}
 use Rattle.refusals_powers.specs.Powers.{high_from}
 use Rattle.refusals_powers.proofs.one_by_one.Given as goal
 

@@ -1,14 +1,12 @@
 use native.Mathlib.Omega.{arith}
 use mathlib.Core.Path.{◌≡◌, sym, ◌∙◌}
 use mathlib.Core.Bool.{false}
-use mathlib.Core.Logic.{⊎_elim}
 use Prim.Native.Nat.{◌≤◌}
 use Rattle.rules.specs.Refusals.{too_high}
 use Rattle.laws.proofs.Range.{any_start}
 use Rattle.refusals_powers.specs.Powers.{high_from}
 use Rattle.refusals_powers.proofs.Powers.{some_more}
 use Rattle.refusals_powers.proofs.Fours.{front_none}
-use borrow.Author.Rules.{rules}
 use Rattle.refusals_powers.proofs.rest_high.Goals.{After-one_by_one, After-row_known-1, else-has_front, then-has_front}
 use Rattle.refusals_powers.proofs.rest_high.Goals as goal
 

@@ -3,7 +3,6 @@ use native.Mathlib.Nat.{add-zero}
 use Prim.Native.Nat.{◌+◌}
 use lib.ListN.{get_or}
 use Rattle.rules.specs.Fields.{big_endian}
-use borrow.Author.Rules.{rules}
 use Rattle.refusals_powers.proofs.turned.Goals as goal
 
 pub returns : goal.returns

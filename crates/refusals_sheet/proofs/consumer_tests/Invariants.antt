@@ -1,13 +1,8 @@
-use native.Mathlib.Omega.{arith}
-use borrow.Author.Rules.{rules}
-use mathlib.Core.Path.{◌≡◌, sym, ap, ◌∙◌}
-use Prim.Native.Nat.{◌-◌, ◌≤◌, zero-le}
+use mathlib.Core.Path.{◌≡◌}
+use Prim.Native.Nat.{◌-◌, ◌≤◌}
 use Rattle.rules.specs.Range.{any}
 use Rattle.rules.specs.Sheet.{month_under}
-use Rattle.laws.proofs.Range.{any_start, any_fold, any_done}
 use Rattle.rules.specs.Refusals.{high_consumer, bad_factor, too_dear}
-use Rattle.rules.specs.declared.Consumer.{Consumer}
-use Rattle.sheet.proofs.Whole.{consumer_there}
 use Rattle.refusals_sheet.proofs.consumer_tests.Given as goal
 
 abbrev pub invariant-loop-j : goal.invariant-loop-j

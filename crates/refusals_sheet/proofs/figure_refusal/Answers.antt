@@ -1,6 +1,5 @@
 use mathlib.Core.Path.{sym}
 use Rattle.refusals_sheet.proofs.Numbers.{figures_are}
-use borrow.Author.Rules.{rules}
 use Rattle.refusals_sheet.proofs.figure_refusal.Goals as goal
 
 pub returns : goal.returns

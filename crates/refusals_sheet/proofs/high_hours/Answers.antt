@@ -1,7 +1,6 @@
 use native.Mathlib.Omega.{arith}
-use borrow.Author.Rules.{rules}
-use mathlib.Core.Path.{◌≡◌, sym, ap, ◌∙◌}
-use Prim.Native.Nat.{◌-◌, ◌≤◌, zero-le}
+use mathlib.Core.Path.{sym, ap, ◌∙◌}
+use Prim.Native.Nat.{zero-le}
 use Rattle.laws.proofs.Range.{any_start, any_fold, any_done}
 use Rattle.refusals_powers.specs.Powers.{high_powers}
 use Rattle.refusals_sheet.specs.Numbers.{high_hours}

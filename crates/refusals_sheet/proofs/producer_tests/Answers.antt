@@ -1,12 +1,7 @@
 use native.Mathlib.Omega.{arith}
-use borrow.Author.Rules.{rules}
-use mathlib.Core.Path.{◌≡◌, sym}
-use Prim.Native.Nat.{◌-◌, ◌≤◌, zero-le}
-use Rattle.rules.specs.Range.{any}
-use Rattle.rules.specs.Sheet.{month_under}
+use mathlib.Core.Path.{sym}
+use Prim.Native.Nat.{zero-le}
 use Rattle.laws.proofs.Range.{any_start, any_fold, any_done}
-use Rattle.rules.specs.Refusals.{bad_share}
-use Rattle.refusals_sheet.specs.Tests.{high_figures}
 use Rattle.refusals_sheet.proofs.Hours.{share_found, high_found}
 use Rattle.refusals_sheet.proofs.producer_tests.Goals as goal
 

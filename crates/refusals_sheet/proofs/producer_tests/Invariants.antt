@@ -1,13 +1,9 @@
-use native.Mathlib.Omega.{arith}
-use borrow.Author.Rules.{rules}
-use mathlib.Core.Path.{◌≡◌, sym}
-use Prim.Native.Nat.{◌-◌, ◌≤◌, zero-le}
+use mathlib.Core.Path.{◌≡◌}
+use Prim.Native.Nat.{◌-◌, ◌≤◌}
 use Rattle.rules.specs.Range.{any}
 use Rattle.rules.specs.Sheet.{month_under}
-use Rattle.laws.proofs.Range.{any_start, any_fold, any_done}
 use Rattle.rules.specs.Refusals.{bad_share}
 use Rattle.refusals_sheet.specs.Tests.{high_figures}
-use Rattle.refusals_sheet.proofs.Hours.{share_found, high_found}
 use Rattle.refusals_sheet.proofs.producer_tests.Given as goal
 
 abbrev pub invariant-loop-p : goal.invariant-loop-p

@@ -5,7 +5,6 @@ use Rattle.rules.specs.Result.{result_length}
 use Rattle.rules.specs.Refusals.{header_tests, room_tests, first_of}
 use Rattle.laws.proofs.Refusals.{header_numbered}
 use Rattle.refusals_sheet.proofs.Numbers.{whole, form_stands, room_stands, last_next, record_is}
-use borrow.Author.Rules.{rules}
 use Rattle.refusals_sheet.proofs.record_number.Goals.{After-record_refusal, Else-short-ne0, Then-short-ne0}
 use Rattle.refusals_sheet.proofs.record_number.Goals as goal
 

@@ -1,7 +1,6 @@
 use Rattle.rules.specs.Refusals.{one_of, first_of}
 use Rattle.refusals_sheet.specs.Tests.{record_tests}
 use mathlib.Core.Bool.{or-false}
-use borrow.Author.Rules.{rules}
 use Rattle.refusals_sheet.proofs.record_refusal.Goals as goal
 
 pub returns : goal.returns

@@ -2,7 +2,6 @@ use mathlib.Core.Path.{◌≡◌, sym, ◌∙◌}
 use Rattle.rules.specs.Refusals.{form_tests, first_of}
 use Rattle.laws.proofs.Refusals.{form_numbered}
 use Rattle.refusals_sheet.proofs.Numbers.{form_whole, form_stands, room_stands, last_next, sheet_is}
-use borrow.Author.Rules.{rules}
 use Rattle.refusals_sheet.proofs.result_refusal.Goals.{After-figure_refusal, After-layout, Then-seven-ne0}
 use Rattle.refusals_sheet.proofs.result_refusal.Goals as goal
 

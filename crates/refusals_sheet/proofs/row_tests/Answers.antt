@@ -1,8 +1,6 @@
 use native.Mathlib.Omega.{arith}
-use borrow.Author.Rules.{rules}
 use mathlib.Core.Path.{◌≡◌, sym, ap, ◌∙◌}
-use Prim.Native.Nat.{◌-◌, ◌≤◌, zero-le}
-use Rattle.rules.specs.Range.{any}
+use Prim.Native.Nat.{zero-le}
 use Rattle.rules.specs.Sheet.{month_under}
 use Rattle.laws.proofs.Range.{any_start, any_fold, any_done}
 use Rattle.rules.specs.Refusals.{too_high, high_row, bad_reference, too_dear, bad_days}

@@ -2,7 +2,6 @@ use mathlib.Core.Path.{sym, ◌∙◌}
 use Rattle.rules.specs.Refusals.{sheet_tests}
 use Rattle.laws.proofs.Refusals.{first_stands, first_next, form_numbered}
 use Rattle.refusals_sheet.proofs.Numbers.{form_whole}
-use borrow.Author.Rules.{rules}
 use Rattle.refusals_sheet.proofs.sheet_refusal.Goals as goal
 
 pub returns-then-form-ne0 : goal.returns-then-form-ne0

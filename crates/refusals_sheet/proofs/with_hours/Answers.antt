@@ -1,6 +1,5 @@
 use mathlib.Core.Bool.{false}
 use Rattle.refusals_sheet.proofs.Numbers.{not_added, nine}
-use borrow.Author.Rules.{rules}
 use Rattle.refusals_sheet.proofs.with_hours.Goals as goal
 
 pub returns-then-number : goal.returns-then-number

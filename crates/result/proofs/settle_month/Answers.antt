@@ -1,6 +1,5 @@
 use mathlib.Core.Path.{sym, ◌∙◌}
 use Rattle.result.proofs.After.{kept, number_kept, hours_answer}
-use borrow.Author.Rules.{rules}
 use Rattle.result.proofs.settle_month.Goals as goal
 
 -- The records have a number, so the month has one.

@@ -1,6 +1,5 @@
 use mathlib.Core.Path.{sym, ◌∙◌}
 use Rattle.settlement.proofs.Answered.{front_stands, turned_down, refused_then, settled_then}
-use borrow.Author.Rules.{rules}
 use Rattle.settlement.proofs.settle.Goals as goal
 
 pub returns-then-front-ne0 : goal.returns-then-front-ne0

@@ -1,5 +1,4 @@
 use Rattle.rules.specs.Result2015.{length_2015}
-use borrow.Author.Rules.{rules}
 use mathlib.Core.Path.{refl}
 use Rattle.text2015.proofs.length_2015.Goals as goal
 

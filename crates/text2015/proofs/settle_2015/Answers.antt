@@ -1,5 +1,4 @@
 use Rattle.text2015.proofs.Answered.{refused_then, fine, settled_then}
-use borrow.Author.Rules.{rules}
 use Rattle.text2015.proofs.settle_2015.Goals as goal
 
 pub returns-then-number-ne0 : goal.returns-then-number-ne0

@@ -7,7 +7,6 @@ use Rattle.rules.specs.Fields.{big_endian}
 use Rattle.rules.specs.Refusals.{one_of}
 use Rattle.rules.specs.TransferList.{list_length, list_version}
 use Rattle.rules.specs.Transfers.{bad_front}
-use borrow.Author.Rules.{rules}
 use Rattle.transfer_list.proofs.bad_front.Goals as goal
 
 pub returns-then-list-lt5 : goal.returns-then-list-lt5

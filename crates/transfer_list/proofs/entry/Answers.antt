@@ -1,5 +1,4 @@
 use Rattle.rules.specs.TransferList.{entry}
-use borrow.Author.Rules.{rules}
 use Rattle.transfer_list.proofs.entry.Goals as goal
 
 pub returns : goal.returns

@@ -1,6 +1,5 @@
 use native.Mathlib.Omega.{arith}
 use Rattle.rules.specs.TransferList.{list_length, entries}
-use borrow.Author.Rules.{rules}
 use Rattle.transfer_list.proofs.entry_count.Goals as goal
 
 pub returns-then-length-lt5 : goal.returns-then-length-lt5

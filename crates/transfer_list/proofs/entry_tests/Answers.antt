@@ -1,9 +1,6 @@
 use native.Mathlib.Omega.{arith}
-use borrow.Author.Rules.{rules}
-use mathlib.Core.Path.{◌≡◌, sym, ap, ◌∙◌}
-use Prim.Native.Nat.{◌-◌, ◌≤◌, zero-le}
-use Rattle.rules.specs.Range.{any}
-use Rattle.rules.specs.TransferList.{entry}
+use mathlib.Core.Path.{sym, ap, ◌∙◌}
+use Prim.Native.Nat.{zero-le}
 use Rattle.rules.specs.Transfers.{bad_entry}
 use Rattle.rules.specs.Transfers as Transfers
 use Rattle.laws.proofs.Range.{any_start, any_fold, any_done}

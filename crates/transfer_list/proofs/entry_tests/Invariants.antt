@@ -1,12 +1,9 @@
-use native.Mathlib.Omega.{arith}
-use borrow.Author.Rules.{rules}
-use mathlib.Core.Path.{◌≡◌, sym, ap, ◌∙◌}
-use Prim.Native.Nat.{◌-◌, ◌≤◌, zero-le}
+use mathlib.Core.Path.{◌≡◌}
+use Prim.Native.Nat.{◌-◌, ◌≤◌}
 use Rattle.rules.specs.Range.{any}
 use Rattle.rules.specs.TransferList.{entry}
 use Rattle.rules.specs.Transfers.{bad_entry}
 use Rattle.rules.specs.Transfers as Transfers
-use Rattle.laws.proofs.Range.{any_start, any_fold, any_done}
 use Rattle.transfer_list.proofs.entry_tests.Given as goal
 
 abbrev pub invariant-loop-i : goal.invariant-loop-i

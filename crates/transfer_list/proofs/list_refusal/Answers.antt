@@ -2,7 +2,6 @@ use mathlib.Core.Path.{sym, ◌∙◌}
 use mathlib.Core.Bool.{or-false}
 use Rattle.rules.specs.Refusals.{one_of, first_of}
 use Rattle.rules.specs.Transfers.{list_tests}
-use borrow.Author.Rules.{rules}
 use Rattle.transfer_list.proofs.list_refusal.Goals as goal
 
 pub returns-then-bad_front : goal.returns-then-bad_front

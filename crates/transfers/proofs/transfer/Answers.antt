@@ -2,7 +2,6 @@ use mathlib.Core.Path.{◌≡◌, sym, ◌∙◌}
 use Rattle.rules.specs.Refusals.{sheet_tests, first_of}
 use Rattle.rules.specs.Transfers.{list_tests}
 use Rattle.transfers.proofs.Answered.{own_refused, whole, list_refused, may_turn, turn_refused, applied}
-use borrow.Author.Rules.{rules}
 use Rattle.transfers.proofs.transfer.Goals.{After-read_volumes, After-slice_known-2-1, After-write_volumes-arg-2-1, Else-number-ne0, Then-number-ne0, Then-turns}
 use Rattle.transfers.proofs.transfer.Goals as goal
 

@@ -1,4 +1,4 @@
-use Rattle.std.proofs.Common.{◌*◌, ◌≤◌, mul-le-mul, arith, rules}
+use Rattle.std.proofs.Common.{◌*◌, ◌≤◌, mul-le-mul, arith}
 use Rattle.laws.proofs.Coefficients.{average_is}
 use Rattle.laws.specs.Bounds.{most_word}
 use Rattle.hours.proofs.control.average_of.Goals as goal

@@ -1,10 +1,9 @@
-use Rattle.std.proofs.Common.{◌≡◌, ℕ, ◌-◌, ◌≤◌, sym, ap, ◌∙◌, ⊎_elim, zero-le, arith, rules}
+use Rattle.std.proofs.Common.{◌≡◌, ℕ, sym, ap, ◌∙◌, zero-le, arith}
 use Rattle.rules.specs.Sheet.{series}
 use Rattle.units.specs.Sums.{tenths}
-use Rattle.hours.specs.Series.{power_in}
 use Rattle.hours.proofs.Standing.{fewer}
 use Rattle.hours.proofs.Turns.{all_days}
-use Rattle.hours.proofs.Evenings.{TwosSoFar, no_twos, twos_control, twos_other, twos_read, twos_total, twos_fit, few_hours}
+use Rattle.hours.proofs.Evenings.{no_twos, twos_control, twos_other, twos_read, twos_total, twos_fit, few_hours}
 use Rattle.hours.proofs.control.by_column.Goals.{else-is_on, then-is_on}
 use Rattle.hours.proofs.control.by_column.Goals as goal
 

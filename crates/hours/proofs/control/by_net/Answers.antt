@@ -1,7 +1,6 @@
-use Rattle.std.proofs.Common.{◌≡◌, ◌-◌, ◌≤◌, sym, ◌∙◌, ⊎_elim, zero-le, arith, rules}
-use Rattle.hours.specs.Series.{net_in}
+use Rattle.std.proofs.Common.{◌≡◌, sym, ◌∙◌, zero-le, arith}
 use Rattle.hours.proofs.Standing.{fewer}
-use Rattle.hours.proofs.Turns.{SoFar, none_yet, control_added, other_more, all_days}
+use Rattle.hours.proofs.Turns.{none_yet, control_added, other_more, all_days}
 use Rattle.hours.proofs.control.by_net.Goals.{else-is_on, then-is_on}
 use Rattle.hours.proofs.control.by_net.Goals as goal
 

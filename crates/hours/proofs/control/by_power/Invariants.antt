@@ -1,7 +1,6 @@
-use Rattle.std.proofs.Common.{◌≡◌, ◌-◌, ◌≤◌, sym, ◌∙◌, ⊎_elim, zero-le, arith, rules}
+use Rattle.std.proofs.Common.{◌-◌, ◌≤◌}
 use Rattle.hours.specs.Series.{power_in}
-use Rattle.hours.proofs.Standing.{fewer}
-use Rattle.hours.proofs.Turns.{SoFar, none_yet, control_added, other_more, all_days}
+use Rattle.hours.proofs.Turns.{SoFar}
 use Rattle.hours.proofs.control.by_power.Given as goal
 
 abbrev pub invariant-loop-day : goal.invariant-loop-day

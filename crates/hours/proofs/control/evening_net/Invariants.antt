@@ -1,7 +1,6 @@
-use Rattle.std.proofs.Common.{◌-◌, ◌≤◌, zero-le, arith, rules}
+use Rattle.std.proofs.Common.{◌-◌, ◌≤◌}
 use Rattle.hours.specs.Series.{net_in}
-use Rattle.hours.proofs.Standing.{fewer}
-use Rattle.hours.proofs.Turns.{InEvening, no_hour_yet, hour_more, whole_evening}
+use Rattle.hours.proofs.Turns.{InEvening}
 use Rattle.hours.proofs.control.evening_net.Given as goal
 
 abbrev pub invariant-loop-t : goal.invariant-loop-t

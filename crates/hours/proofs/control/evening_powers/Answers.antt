@@ -1,7 +1,6 @@
-use Rattle.std.proofs.Common.{◌-◌, ◌≤◌, ◌∙◌, zero-le, arith, rules}
-use Rattle.hours.specs.Series.{power_in}
+use Rattle.std.proofs.Common.{◌∙◌, zero-le, arith}
 use Rattle.hours.proofs.Standing.{fewer}
-use Rattle.hours.proofs.Turns.{InEvening, no_hour_yet, hour_more, whole_evening}
+use Rattle.hours.proofs.Turns.{no_hour_yet, hour_more, whole_evening}
 use Rattle.hours.proofs.control.evening_powers.Goals as goal
 
 pub loop-i-init : goal.loop-i-init

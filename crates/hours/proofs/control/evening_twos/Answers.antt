@@ -1,4 +1,4 @@
-use Rattle.std.proofs.Common.{arith, rules}
+use Rattle.std.proofs.Common.{arith}
 use Rattle.hours.specs.Series.{power_in}
 use Rattle.hours.proofs.Standing.{fewer}
 use Rattle.hours.proofs.Evenings.{twos_more, twos_same, twos_fit, evening_twos}

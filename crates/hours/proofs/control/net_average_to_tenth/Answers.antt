@@ -1,4 +1,3 @@
-use Rattle.std.proofs.Common.{rules}
 use Rattle.hours.proofs.control.net_average_to_tenth.Goals as goal
 
 pub returns : goal.returns

@@ -1,4 +1,4 @@
-use Rattle.std.proofs.Common.{◌≡◌, ◌*◌, true, ◌&&◌, leb, length, sym, zero-le, rules, leb-true}
+use Rattle.std.proofs.Common.{◌≡◌, ◌*◌, true, ◌&&◌, leb, length, sym, zero-le, leb-true}
 use Rattle.laws.proofs.Range.{both}
 use Rattle.hours.specs.Series.{stands}
 use Rattle.hours.proofs.Standing.{told}

@@ -1,6 +1,5 @@
 use Rattle.laws.proofs.Coefficients.{average_at_most}
 use Rattle.laws.specs.Bounds.{most_word}
-use Rattle.std.proofs.Common.{rules}
 use Rattle.hours.proofs.control.outside_average.Goals as goal
 
 pub returns : goal.returns

@@ -1,4 +1,4 @@
-use Rattle.std.proofs.Common.{◌≡◌, ℕ, ◌*◌, ◌%◌, ◌<◌, ◌≤◌, true, false, ◌&&◌, eqb, leb, List, length, sym, zero-le, rules, eqb-true, leb-true}
+use Rattle.std.proofs.Common.{◌≡◌, ℕ, ◌*◌, ◌%◌, ◌<◌, ◌≤◌, true, false, ◌&&◌, eqb, leb, List, length, sym, zero-le, eqb-true, leb-true}
 use Rattle.rules.specs.declared.Series.{Series}
 use Rattle.rules.specs.Sheet.{series}
 use Rattle.laws.proofs.Range.{both}

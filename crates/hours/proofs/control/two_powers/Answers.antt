@@ -1,5 +1,4 @@
 use Rattle.hours.proofs.Evenings.{two_read}
-use Rattle.std.proofs.Common.{rules}
 use Rattle.hours.proofs.control.two_powers.Goals as goal
 
 pub returns : goal.returns

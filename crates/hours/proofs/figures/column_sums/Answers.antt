@@ -1,4 +1,4 @@
-use Rattle.std.proofs.Common.{◌≡◌, Bool, true, false, not, ◌||◌, sym, refl, ◌∙◌, ap₂, true≢false, rules}
+use Rattle.std.proofs.Common.{◌≡◌, Bool, true, false, not, ◌||◌, sym, refl, ◌∙◌, ap₂, true≢false}
 use borrow.Author.Tests.{not-false}
 use Rattle.laws.proofs.Range.{or_left, or_right}
 use Rattle.refusals_powers.specs.Powers.{high_powers}

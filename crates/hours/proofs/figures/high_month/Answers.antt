@@ -1,4 +1,3 @@
-use Rattle.std.proofs.Common.{rules}
 use Rattle.hours.proofs.figures.high_month.Goals as goal
 
 pub returns : goal.returns

@@ -1,4 +1,4 @@
-use Rattle.std.proofs.Common.{◌≡◌, false, sym, ap, ◌∙◌, zero-le, rules}
+use Rattle.std.proofs.Common.{◌≡◌, false, sym, ap, ◌∙◌, zero-le}
 use Rattle.refusals_powers.specs.Powers.{high_powers}
 use Rattle.units.specs.Sums.{hundredths}
 use Rattle.hours.specs.Figures.{hour_figures}

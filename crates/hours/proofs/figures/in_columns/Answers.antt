@@ -1,5 +1,4 @@
 use Rattle.hours.specs.Figures.{in_columns}
-use Rattle.std.proofs.Common.{rules}
 use Rattle.hours.proofs.figures.in_columns.Goals as goal
 
 pub returns : goal.returns

@@ -1,4 +1,4 @@
-use Rattle.std.proofs.Common.{refl, rules}
+use Rattle.std.proofs.Common.{refl}
 use Rattle.hours.specs.Figures.{is_column}
 use Rattle.hours.proofs.figures.is_column.Goals as goal
 

@@ -1,4 +1,4 @@
-use Rattle.std.proofs.Common.{length, sym, ◌∙◌, zero-le, rules}
+use Rattle.std.proofs.Common.{length, sym, ◌∙◌, zero-le}
 use Rattle.hours.specs.Figures.{sums_below}
 use Rattle.hours.proofs.Columns.{Columns, columns_are, columns_below}
 use Rattle.hours.proofs.figures.month_sums.Goals.{After-column_sums, Then-in_columns}

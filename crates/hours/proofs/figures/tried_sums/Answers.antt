@@ -1,4 +1,4 @@
-use Rattle.std.proofs.Common.{◌*◌, ◌≤◌, leb, arith, rules, leb-true}
+use Rattle.std.proofs.Common.{◌*◌, ◌≤◌, leb, arith, leb-true}
 use Rattle.rules.specs.Fields.{big_endian}
 use Rattle.laws.proofs.Range.{both}
 use Rattle.hours.proofs.Columns.{low_within, low_held, within_held}

@@ -1,4 +1,4 @@
-use Rattle.std.proofs.Common.{arith, rules}
+use Rattle.std.proofs.Common.{arith}
 use Rattle.hours.proofs.Turns.{k4_same}
 use Rattle.hours.proofs.k4.by_hour.Goals as goal
 

@@ -1,5 +1,4 @@
-use Rattle.std.proofs.Common.{◌≡◌, ℕ, ◌*◌, ◌≤◌, true, ◌&&◌, eqb, List, length, sym, zero-le, arith, rules, eqb-true}
-use borrow.Author.Tests.{not-true, not-false}
+use Rattle.std.proofs.Common.{◌≡◌, ℕ, ◌*◌, ◌≤◌, true, ◌&&◌, eqb, List, length, sym, zero-le, arith, eqb-true}
 use Rattle.rules.specs.declared.Series.{Series}
 use Rattle.rules.specs.Sheet.{series}
 use Rattle.laws.specs.Bounds.{most_word}

@@ -1,8 +1,6 @@
-use Rattle.std.proofs.Common.{◌≡◌, ℕ, ◌+◌, ◌-◌, ◌*◌, ◌≤◌, ap, zero-le, mul-le-mul_left, arith, rules}
+use Rattle.std.proofs.Common.{◌-◌, ◌*◌, ◌≤◌}
 use Rattle.hours.specs.Series.{power_in}
 use Rattle.hours.specs.Sums.{K4Before}
-use Rattle.hours.proofs.Standing.{fewer}
-use Rattle.hours.proofs.Turns.{k4_same, none_summed}
 use Rattle.hours.proofs.k4.through_hours.Given as goal
 
 abbrev pub invariant-loop-q : goal.invariant-loop-q

@@ -1,4 +1,4 @@
-use Rattle.std.proofs.Common.{◌≡◌, ℕ, min, ap, ◌∙◌, ap₂, arith, rules}
+use Rattle.std.proofs.Common.{◌≡◌, ℕ, min, ap, ◌∙◌, ap₂, arith}
 use Rattle.laws.proofs.Range.{sum_fold}
 use Rattle.units.proofs.Adding.{added_exact}
 use Rattle.hours.proofs.k4.with_hour.Goals as goal

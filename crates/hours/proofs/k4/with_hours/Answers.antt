@@ -1,6 +1,4 @@
-use Rattle.std.proofs.Common.{◌+◌, ◌-◌, ◌≤◌, zero-le, arith}
-use Rattle.hours.specs.Series.{power_in}
-use Rattle.hours.specs.Sums.{K4Before}
+use Rattle.std.proofs.Common.{zero-le, arith}
 use Rattle.hours.proofs.Standing.{fewer}
 use Rattle.hours.proofs.Turns.{k4_same}
 use Rattle.hours.proofs.k4.with_hours.Goals as goal

@@ -1,8 +1,6 @@
-use Rattle.std.proofs.Common.{◌+◌, ◌-◌, ◌≤◌, zero-le, arith}
+use Rattle.std.proofs.Common.{◌+◌, ◌-◌, ◌≤◌}
 use Rattle.hours.specs.Series.{power_in}
 use Rattle.hours.specs.Sums.{K4Before}
-use Rattle.hours.proofs.Standing.{fewer}
-use Rattle.hours.proofs.Turns.{k4_same}
 use Rattle.hours.proofs.k4.with_hours.Given as goal
 
 abbrev pub invariant-loop-i : goal.invariant-loop-i

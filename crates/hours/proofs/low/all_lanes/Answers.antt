@@ -1,5 +1,4 @@
-use Rattle.std.proofs.Common.{◌-◌, ◌*◌, ◌≤◌, zero-le, arith, rules}
-use Rattle.hours.specs.Low.{LanesAfter}
+use Rattle.std.proofs.Common.{zero-le, arith}
 use Rattle.hours.proofs.Lanes.{no_lanes, lanes_same}
 use Rattle.hours.proofs.low.all_lanes.Goals as goal
 

@@ -1,6 +1,5 @@
-use Rattle.std.proofs.Common.{◌-◌, ◌*◌, ◌≤◌, zero-le, arith, rules}
+use Rattle.std.proofs.Common.{◌-◌, ◌*◌, ◌≤◌}
 use Rattle.hours.specs.Low.{LanesAfter}
-use Rattle.hours.proofs.Lanes.{no_lanes, lanes_same}
 use Rattle.hours.proofs.low.all_lanes.Given as goal
 
 abbrev pub invariant-loop-q : goal.invariant-loop-q

@@ -1,5 +1,5 @@
-use Rattle.std.proofs.Common.{ℕ, ◌+◌, ◌-◌, ◌*◌, ◌<◌, ◌≤◌, get_or, zero-le, arith, eqb-true}
-use Rattle.hours.proofs.Lanes.{NoneIn, none_more}
+use Rattle.std.proofs.Common.{ℕ, ◌<◌, zero-le, arith, eqb-true}
+use Rattle.hours.proofs.Lanes.{none_more}
 use Rattle.hours.proofs.low.is_clear.Goals as goal
 
 pub loop-i-init : goal.loop-i-init

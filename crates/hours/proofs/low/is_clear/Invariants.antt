@@ -1,5 +1,5 @@
-use Rattle.std.proofs.Common.{ℕ, ◌+◌, ◌-◌, ◌*◌, ◌<◌, ◌≤◌, get_or, zero-le, arith, eqb-true}
-use Rattle.hours.proofs.Lanes.{NoneIn, none_more}
+use Rattle.std.proofs.Common.{◌+◌, ◌-◌, ◌*◌, ◌≤◌, get_or}
+use Rattle.hours.proofs.Lanes.{NoneIn}
 use Rattle.hours.proofs.low.is_clear.Given as goal
 
 abbrev pub invariant-loop-i : goal.invariant-loop-i

@@ -1,9 +1,7 @@
-use Rattle.std.proofs.Common.{◌≡◌, ℕ, ◌+◌, ◌-◌, ◌*◌, ◌≤◌, sym, ap, ◌∙◌, zero-le, arith, rules}
+use Rattle.std.proofs.Common.{◌≡◌, ℕ, ◌+◌, ◌-◌, ◌*◌, ◌≤◌}
 use Rattle.rules.specs.Range.{sum}
-use Rattle.laws.proofs.Range.{sum_none, sum_fold}
 use Rattle.laws.proofs.Arrays.{Agrees}
 use Rattle.hours.specs.Low.{left_in, upper_in}
-use Rattle.hours.proofs.Lanes.{whole_sum, all_lanes}
 use Rattle.hours.proofs.low.lanes_sum.Given as goal
 
 abbrev pub invariant-loop-i : goal.invariant-loop-i

@@ -1,4 +1,4 @@
-use Rattle.std.proofs.Common.{◌≡◌, ℕ, ◌+◌, ◌-◌, ◌*◌, ◌≤◌, List, length, ◌∙◌, mul-le-mul, arith, rules}
+use Rattle.std.proofs.Common.{◌≡◌, ℕ, ◌+◌, ◌-◌, ◌*◌, ◌≤◌, List, length, ◌∙◌, mul-le-mul, arith}
 use Rattle.rules.specs.Fields.{big_endian}
 use Rattle.rules.specs.Range.{sum}
 use Rattle.units.specs.Sums.{tenths}

@@ -1,4 +1,4 @@
-use Rattle.std.proofs.Common.{arith, rules}
+use Rattle.std.proofs.Common.{arith}
 use Rattle.hours.proofs.series.net_at.Goals as goal
 
 pub power-requires : goal.power-requires

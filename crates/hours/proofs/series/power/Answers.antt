@@ -1,4 +1,4 @@
-use Rattle.std.proofs.Common.{◌+◌, ◌-◌, ◌*◌, ap, ◌∙◌, add-zero, arith, rules}
+use Rattle.std.proofs.Common.{◌+◌, ◌-◌, ◌*◌, ap, ◌∙◌, add-zero, arith}
 use Rattle.rules.specs.Fields.{big_endian}
 use Rattle.laws.proofs.Fields.{read_part}
 use Rattle.hours.proofs.series.power.Goals as goal

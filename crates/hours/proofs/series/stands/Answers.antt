@@ -1,4 +1,4 @@
-use Rattle.std.proofs.Common.{refl, arith, rules}
+use Rattle.std.proofs.Common.{refl, arith}
 use Rattle.hours.specs.Series.{stands}
 use Rattle.hours.proofs.Standing.{near}
 use Rattle.hours.proofs.series.stands.Goals as goal

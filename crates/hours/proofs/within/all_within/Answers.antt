@@ -1,5 +1,4 @@
-use Rattle.std.proofs.Common.{◌-◌, ◌≤◌, zero-le, arith}
-use Rattle.hours.specs.Within.{WithinBefore}
+use Rattle.std.proofs.Common.{zero-le, arith}
 use Rattle.hours.proofs.WithinMonth.{none_before, before_same}
 use Rattle.hours.proofs.within.all_within.Goals as goal
 

@@ -1,6 +1,5 @@
-use Rattle.std.proofs.Common.{◌-◌, ◌≤◌, zero-le, arith}
+use Rattle.std.proofs.Common.{◌-◌, ◌≤◌}
 use Rattle.hours.specs.Within.{WithinBefore}
-use Rattle.hours.proofs.WithinMonth.{none_before, before_same}
 use Rattle.hours.proofs.within.all_within.Given as goal
 
 abbrev pub invariant-loop-i : goal.invariant-loop-i

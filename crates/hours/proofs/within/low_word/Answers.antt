@@ -1,4 +1,3 @@
-use Rattle.std.proofs.Common.{rules}
 use Rattle.hours.proofs.within.low_word.Goals as goal
 
 pub returns : goal.returns

@@ -1,4 +1,4 @@
-use Rattle.std.proofs.Common.{arith, rules}
+use Rattle.std.proofs.Common.{arith}
 use Rattle.hours.proofs.LowPowers.{Bytes}
 use Rattle.hours.proofs.WithinCeiling.{from_words}
 use Rattle.hours.proofs.within.power_read.Goals as goal

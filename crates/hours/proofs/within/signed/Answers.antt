@@ -1,4 +1,4 @@
-use Rattle.std.proofs.Common.{arith, w32, rules}
+use Rattle.std.proofs.Common.{arith, w32}
 use mir.Facts.{sfits_to_z}
 use Rattle.hours.proofs.Signed.{from_below, written}
 use Rattle.hours.proofs.within.signed.Goals as goal

@@ -1,4 +1,4 @@
-use Rattle.std.proofs.Common.{arith, rules}
+use Rattle.std.proofs.Common.{arith}
 use Rattle.hours.proofs.Signed.{first_smaller, second_smaller}
 use Rattle.hours.proofs.within.smaller.Goals as goal
 

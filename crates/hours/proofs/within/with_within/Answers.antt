@@ -1,4 +1,4 @@
-use Rattle.std.proofs.Common.{arith, rules}
+use Rattle.std.proofs.Common.{arith}
 use Rattle.hours.proofs.WithinMonth.{within_more}
 use Rattle.hours.proofs.within.with_within.Goals as goal
 

@@ -1,4 +1,4 @@
-use Rattle.std.proofs.Common.{◌≡◌, not, eqb, get_or, sym, ◌∙◌, arith, rules, eq-eqb, eqb-true}
+use Rattle.std.proofs.Common.{◌≡◌, not, eqb, get_or, sym, ◌∙◌, arith, eq-eqb, eqb-true}
 use borrow.Author.Tests.{not-true}
 use Rattle.laws.proofs.Range.{both}
 use Rattle.refusals_powers.proofs.Powers.{each_within}

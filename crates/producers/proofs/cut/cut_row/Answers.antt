@@ -6,7 +6,6 @@ use Rattle.rules.specs.Range.{when}
 use Rattle.units.specs.Sums.{tenths}
 use Rattle.units.proofs.Adding.{added_exact}
 use Rattle.producers.specs.After.{cut_row}
-use borrow.Author.Rules.{rules}
 use Rattle.producers.proofs.cut.cut_row.Goals as goal
 
 pub returns-then-r-eq255 : goal.returns-then-r-eq255

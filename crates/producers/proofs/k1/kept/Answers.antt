@@ -4,7 +4,6 @@ use native.Mathlib.Omega.{arith}
 use Rattle.rules.specs.Units.{tenths_ceiling, in_thousandths}
 use Rattle.laws.specs.ShortForm.{kept}
 use mathlib.Core.Bool.{false}
-use borrow.Author.Rules.{rules}
 use Rattle.producers.proofs.k1.kept.Goals as goal
 
 -- A bilateral row with n × D above 0.

@@ -4,7 +4,6 @@ use native.Mathlib.Omega.{arith}
 use Rattle.rules.specs.Units.{rounded, in_thousandths}
 use Rattle.rules.specs.Coefficients.{share, less_penalty, millionths_of}
 use Rattle.laws.proofs.Coefficients.{penalty_of_none, penalty_rounded}
-use borrow.Author.Rules.{rules}
 use Rattle.producers.proofs.k1.less_penalty.Goals as goal
 
 pub returns-then-penalty-eq0 : goal.returns-then-penalty-eq0

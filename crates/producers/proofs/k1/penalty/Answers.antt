@@ -2,7 +2,6 @@ use Prim.Native.Nat.{◌≤◌}
 use native.Mathlib.Omega.{arith}
 use native.Mathlib.Nat.{mul-le-mul}
 use Rattle.rules.specs.Bands.{thousandths}
-use borrow.Author.Rules.{rules}
 use Rattle.producers.proofs.k1.penalty.Goals as goal
 
 pub overflow_mul-result : goal.overflow_mul-result

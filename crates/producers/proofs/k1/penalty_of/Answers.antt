@@ -1,5 +1,4 @@
 use native.Mathlib.Omega.{arith}
-use borrow.Author.Rules.{rules}
 use Rattle.producers.proofs.k1.penalty_of.Goals as goal
 
 pub penalty-requires : goal.penalty-requires

@@ -1,7 +1,6 @@
 use mathlib.Core.Path.{refl, sym, ◌∙◌}
 use Rattle.laws.proofs.Refusals.{stretch_refused, stretch_none}
 use Rattle.refusals_form.proofs.Handed.{no_stretch, stretch_same, stretch_length}
-use borrow.Author.Rules.{rules}
 use Rattle.refusals_form.proofs.stretch.producer_hours.Goals as goal
 
 pub returns-then-form_refusal-ne0 : goal.returns-then-form_refusal-ne0

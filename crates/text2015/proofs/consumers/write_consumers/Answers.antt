@@ -1,9 +1,8 @@
 use native.Mathlib.Omega.{arith}
 use mathlib.Core.Path.{◌≡◌, refl, sym, ap, ◌∙◌}
-use Prim.Native.Nat.{◌+◌, ◌-◌, ◌*◌, ◌≤◌, ◌<◌, zero-le}
+use Prim.Native.Nat.{◌+◌, ◌*◌, ◌≤◌, ◌<◌, zero-le}
 use lib.ListN.{length}
-use Rattle.rules.specs.Fields.{joined, over}
-use Rattle.rules.specs.Month.{Month}
+use Rattle.rules.specs.Fields.{joined}
 use Rattle.rules.specs.Sheet.{month_under}
 use Rattle.rules.specs.Result2015.{record_2015}
 use Rattle.laws.proofs.Fields.{length-joined}
@@ -12,7 +11,6 @@ use Rattle.sheet.proofs.Whole.{consumer_there}
 use Rattle.writing.proofs.Lent.{over_none, length-over, next_record}
 use Rattle.text2015.specs.Lines.{line_of}
 use Rattle.text2015.proofs.Parts.{line_record}
-use borrow.Author.Rules.{rules}
 use Rattle.text2015.proofs.consumers.write_consumers.Goals.{After-consumer-k, After-line_of-f, After-slice_known-in-loop-c-1}
 use Rattle.text2015.proofs.consumers.write_consumers.Goals as goal
 

@@ -1,18 +1,9 @@
-use native.Mathlib.Omega.{arith}
-use mathlib.Core.Path.{◌≡◌, refl, sym, ap, ◌∙◌}
-use Prim.Native.Nat.{◌+◌, ◌-◌, ◌*◌, ◌≤◌, ◌<◌, zero-le}
+use mathlib.Core.Path.{◌≡◌}
+use Prim.Native.Nat.{◌-◌, ◌≤◌}
 use lib.ListN.{length}
 use Rattle.rules.specs.Fields.{joined, over}
-use Rattle.rules.specs.Month.{Month}
 use Rattle.rules.specs.Sheet.{month_under}
 use Rattle.rules.specs.Result2015.{record_2015}
-use Rattle.laws.proofs.Fields.{length-joined}
-use Rattle.laws.proofs.Text2015.{length-record_2015}
-use Rattle.sheet.proofs.Whole.{consumer_there}
-use Rattle.writing.proofs.Lent.{over_none, length-over, next_record}
-use Rattle.text2015.specs.Lines.{line_of}
-use Rattle.text2015.proofs.Parts.{line_record}
-use borrow.Author.Rules.{rules}
 use Rattle.text2015.proofs.consumers.write_consumers.Given as goal
 
 abbrev pub invariant-loop-c : goal.invariant-loop-c

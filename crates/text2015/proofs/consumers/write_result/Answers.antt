@@ -1,6 +1,5 @@
 use Rattle.rules.specs.Sheet.{month_under}
 use Rattle.text2015.proofs.Parts.{room_for_consumers, consumers_stand}
-use borrow.Author.Rules.{rules}
 use Rattle.text2015.proofs.consumers.write_result.Goals as goal
 
 pub slice_bounds-write_consumers-count : goal.slice_bounds-write_consumers-count

@@ -1,11 +1,8 @@
 use native.Mathlib.Omega.{arith}
-use borrow.Author.Rules.{rules}
 use mathlib.Core.Path.{◌≡◌, ap, ◌∙◌}
-use Prim.Native.Nat.{◌-◌, ◌≤◌, zero-le}
+use Prim.Native.Nat.{zero-le}
 use Rattle.rules.specs.declared.Consumer.{Consumer}
-use Rattle.rules.specs.Sheet.{month_under}
-use Rattle.rules.specs.Transfers.{contracts}
-use Rattle.laws.proofs.Arrays.{Agrees, filled, filled_none, filled_more, agrees_listed}
+use Rattle.laws.proofs.Arrays.{filled_none, filled_more, agrees_listed}
 use Rattle.sheet.proofs.Whole.{consumer_there}
 use Rattle.units.specs.Sums.{tenths}
 use Rattle.transfers.proofs.contracts.read_volumes.Goals as goal

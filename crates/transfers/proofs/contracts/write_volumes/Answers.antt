@@ -1,7 +1,6 @@
 use native.Mathlib.Omega.{arith}
-use borrow.Author.Rules.{rules}
 use mathlib.Core.Path.{◌≡◌, refl, sym, ap, ◌∙◌}
-use Prim.Native.Nat.{◌+◌, ◌-◌, ◌≤◌, zero-le}
+use Prim.Native.Nat.{◌+◌, ◌≤◌, zero-le}
 use lib.ListN.{length}
 use Rattle.rules.specs.Fields.{bytes_of, over_at}
 use Rattle.rules.specs.Sheet.{contract_at, with_contracts}

@@ -1,14 +1,7 @@
-use native.Mathlib.Omega.{arith}
-use borrow.Author.Rules.{rules}
-use mathlib.Core.Path.{◌≡◌, refl, sym, ap, ◌∙◌}
-use Prim.Native.Nat.{◌+◌, ◌-◌, ◌≤◌, zero-le}
+use mathlib.Core.Path.{◌≡◌}
+use Prim.Native.Nat.{◌-◌, ◌≤◌}
 use lib.ListN.{length}
-use Rattle.rules.specs.Fields.{bytes_of, over_at}
-use Rattle.rules.specs.Sheet.{contract_at, with_contracts}
-use Rattle.laws.proofs.Fields.{length-bytes_of}
-use Rattle.laws.proofs.Sheet.{consumer_inside}
-use Rattle.laws.proofs.Written.{length-over_at, contracts_more}
-use Rattle.writing.proofs.Lent.{placed_at}
+use Rattle.rules.specs.Sheet.{with_contracts}
 use Rattle.transfers.specs.Held.{read}
 use Rattle.transfers.proofs.contracts.write_volumes.Given as goal
 

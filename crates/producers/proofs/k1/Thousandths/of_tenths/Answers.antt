@@ -1,6 +1,5 @@
 use mathlib.Core.Path.{refl}
 use Rattle.rules.specs.Units.{in_thousandths}
-use borrow.Author.Rules.{rules}
 use Rattle.producers.proofs.k1.Thousandths.of_tenths.Goals as goal
 
 pub returns : goal.returns
