@@ -18,7 +18,7 @@ use rules::{HourSeries, Series};
 use units::{Hundredths, Tenths};
 
 // Some power is above the ceiling, which is number 9; k4's sums and the control average of outside use.
-#[derive(Drop)]
+#[derive(Clone, Copy)]
 pub struct HourFigures {
     pub high: bool,
     pub sums: K4,

@@ -10,7 +10,7 @@ use rules::Series;
 use units::Tenths;
 
 // Over the hours: m, and what was met of it (k4).
-#[derive(Drop)]
+#[derive(Clone, Copy)]
 pub struct K4 {
     pub asked: Tenths,
     pub met: Tenths,

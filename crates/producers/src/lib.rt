@@ -35,7 +35,7 @@ pub struct Terms {
 }
 
 // The terms of six producers, as many as a sheet may have; and whether some hour of theirs has a power above the ceiling, which is number 9.
-#[derive(Drop)]
+#[derive(Clone, Copy)]
 pub struct AllTerms {
     pub of: [Terms; 6],
     pub high: bool,
