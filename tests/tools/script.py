@@ -16,20 +16,29 @@ TOOLS_USED = ("sh", "dirname", "readlink", "find", "cat", "mkdir", "mv", "rm", "
               "sort", "xargs", "sha256sum", "cut", "git", "python3", "env", "wc", "od")
 STAND_IN = """\
 #!/bin/sh
-# rt in the tests: eats its standard input, counts its checks, and puts the program of a crate into place.
+# rt in the tests: eats its standard input, counts its runs, and leaves the program of the crate that it is called in.
 case $1 in version) cat "$0.version"; exit ;; esac
 cat >/dev/null
-echo "$*" >>"$0.log"
+name=${PWD##*/}
+echo "$* $name" >>"$0.log"
 [ ! -f "$0.slow" ] || sleep 1
-echo "rt: laws proved (unchanged since it was last proved)"
-echo "a line of the prover"
-echo "rt: rules proved (3 s)"
-[ ! -f "$0.fails" ] || { echo "rt: FAILED: rules"; exit 1; }
-echo "rt: $2 proved (4 s)"
-echo "rt: ok, 3 crates proved"
-mkdir -p target/bin target/stamp
-[ -f "target/stamp/$2" ] || cp "$0.$2" "target/bin/$2"
-echo stamp >"target/stamp/$2"
+say() { for line; do echo "$line" >&2; done; }
+mkdir -p ../laws/out ../rules/out out
+echo made >../rules/out/made
+say "rt: rules: begins with what a check kept in /another/checkout/crates/rules" "rt: chose --jobs 2 for laws"
+say "fn laws::sum: proved" "library rules: modules loaded=65 checked=0" "crate laws: modules loaded=0 checked=47"
+[ ! -f "$0.fails" ] || {
+    say "logic=not-proved" "rattle build: nothing was built, since only a proved crate is built"
+    say "rt: the library laws did not build, so nothing above it was checked"
+    exit 1
+}
+say "logic=proved functions=1 sum=0 incremental=trusted"
+say "rt: rt check --fix-imports removes those imports, and so does rt tidy once the crate is proved"
+say "crate $name: modules loaded=0 checked=153" "logic=proved functions=8 axioms=2 sum=0 incremental=trusted"
+cp "$0.$name" "out/new.$$"
+mv "out/new.$$" "out/$name"
+say "rt: running out/$name; to give it other input, run that file yourself"
+echo N1
 """
 CRATES = """\
 # NAME: crates
@@ -43,6 +52,8 @@ average_sheet: rules laws other io libc
 """
 EXAM = (EXAMPLES / "exam-126.sheet").read_bytes()
 MONTH = EXAMPLES / "month.sheet"
+NOT_PROVED = ("settle: laws is not proved\nrt: the library laws did not build, so nothing above it was checked\n"
+              "settle: the program settle is not proved, so nothing is settled; 'rt check' in crates/settle says why\n")
 LISTINGS = {path.stem: path.with_suffix(".listing").read_bytes() for path in EXAMPLES.glob("*.sheet")}
 
 
@@ -63,6 +74,8 @@ class House:
             shutil.copy(program, self.beside_rt(program.name))
         self.source = self.root / "crates" / "rules" / "src"
         self.source.mkdir(parents=True)
+        for name in ("laws", *(program.name for program in PROGRAMS)):
+            (self.root / "crates" / name).mkdir()
         (self.source / "lib.rt").write_text("one")
         (self.source / "more.rt").write_text("two")
         (self.root / "crates.txt").write_text(CRATES)
@@ -76,7 +89,7 @@ class House:
     def checks(self, program="settle"):
         """How often a program was checked by rt."""
         log = self.beside_rt("log")
-        return log.read_text().count(f"check {program}\n") if log.is_file() else 0
+        return log.read_text().count(f"run {program}\n") if log.is_file() else 0
 
     def settle(self, *words, folder=None, **more):
         """./settle in its own folder, or from another one."""
@@ -110,15 +123,21 @@ def test_building(folder):
     house.fails("no such sheet", "settle: cannot read none.sheet\n", ["none.sheet"])
     check(house.checks() == 0, "settle: nothing is built for a sheet that cannot be read")
     house.beside_rt("fails").write_text("")
-    house.fails("rt fails", "rt: FAILED: rules\nsettle: the program settle is not proved, so nothing is settled")
+    house.fails("rt fails", NOT_PROVED)
     house.beside_rt("fails").unlink()
 
     said = house.settles("the first use builds, and rt does not eat the sheet", 1, b"which takes some minutes\n"
-                         b"rt: rules proved (3 s), 2 of 3\nrt: settle proved (4 s), 3 of 3\nrt: ok, 3 crates proved\n")
-    check(b"prover" not in said and b"unchanged" not in said, "settle: only rt's lines are passed on", said.decode())
+                         b"settle: laws is proved, 2 of 3 crates\nsettle: settle is proved, 3 of 3 crates\n")
+    check(b"rt: " not in said and b"fn " not in said, "settle: what rt says for who proves is not passed on",
+          said.decode())
     house.settles("the second use does not build", 0)
     house.settles("a dash", 0, words=["-"])
+    (house.source.parent / "out" / "made").write_text("made again")
+    house.settles("what rt makes is no source", 0)
     (house.source / "lib.rt").write_text("changed")
+    house.beside_rt("fails").write_text("")
+    house.fails("rt fails on a changed source", NOT_PROVED)
+    house.beside_rt("fails").unlink()
     house.settles("a changed source", 1, b"settle: rt looks whether the program settle is up to date\n")
     house.settles("after that", 0)
     (house.source / "more.rt").write_text("put in place with an old time")
@@ -127,7 +146,7 @@ def test_building(folder):
     (house.source / "more.rt").unlink()
     house.settles("a source taken away", 1, b"up to date")
     (house.root / "crates.txt").write_text("rules: \n")
-    house.settles("crates.txt", 1, b"up to date\nrt: rules proved (3 s)\n")
+    house.settles("crates.txt", 1, b"up to date\nsettle: laws is proved\nsettle: settle is proved\n")
     house.beside_rt("version").unlink()
     house.fails("an rt that fails", "rt.version: No such file or directory\nsettle: rt is on the PATH, but fails: "
                 "'rt version' ended with status 1\n")
@@ -174,7 +193,8 @@ def test_at_once(folder):
                                  stdout=subprocess.PIPE, stderr=subprocess.PIPE) for _ in range(2)]
         for each in runs:
             out, err = each.communicate(timeout=30)
-            known = (b"rt: ", b"settle: the program settle is proved", b"settle: another run proves a program")
+            known = (b"settle: the program settle is proved", b"settle: another run proves a program",
+                     b"settle: laws is proved, 2 of 3", b"settle: settle is proved, 3 of 3")
             quiet = all(line.startswith(known) for line in err.splitlines())
             check(each.returncode == 0 and out == LISTINGS["exam-126"] and quiet, "settle: two first runs at once",
                   err.decode())
@@ -305,10 +325,10 @@ def check_built(kind, folder):
     house.settle(stdin=EXAM)
     house.fails("no rt", f"the program {program} is to be proved", words, commands=house.bin_without_rt)
     house.beside_rt("fails").write_text("")
-    house.fails("rt fails", f"the program {program} is not proved, so nothing is settled; 'rt check {program}' says "
-                "why\n", words)
+    house.fails("rt fails", f"the program {program} is not proved, so nothing is settled; 'rt check' in crates/"
+                f"{program} says why\n", words)
     house.beside_rt("fails").unlink()
-    lines = "rt: rules proved (3 s), 2 of {0}\nrt: {1} proved (4 s), 3 of {0}\nrt: ok, 3 crates proved\n"
+    lines = "settle: laws is proved, 2 of {0} crates\nsettle: {1} is proved, {0} of {0} crates\n"
     first = f"settle: the program {program} is proved and built first, which takes some minutes\n"
     built("the first use", 0, 1, first + lines.format(4, program))
     built("the second use", 0, 0, "")
@@ -523,7 +543,7 @@ def test_text_2015(folder):
                 commands=house.bin_without_rt)
     done = house.settle(*words)
     check(done.stdout == wanted and done.stderr.startswith(b"settle: the program settle_2015 is proved and built first")
-          and done.stderr.endswith(b"rt: settle_2015 proved (4 s), 3 of 3\nrt: ok, 3 crates proved\n"),
+          and done.stderr.endswith(b"settle: settle_2015 is proved, 3 of 3 crates\n"),
           "settle --text-2015: the first use", words_of(done))
     for given in (words, [*words, "--text-2015"], ["--text-2015", "examples/old-act.toml"], ["--text-2015", "-"],
                   ["--text-2015"]):
@@ -643,6 +663,11 @@ def test_version(folder):
     (house.root / "tools").unlink()
     (house.root / "tools").mkdir()
     shutil.copy(ROOT / "tools" / "version", house.root / "tools")
+    out = house.source.parent / "out"
+    out.mkdir()
+    (out / "made").write_text("made by rt after the archive")
+    for path in (out.parent, out, out / "made"):
+        os.utime(path, (time.time() + 60, time.time() + 60))
     names = ["crates.txt", "crates/rules/src/lib.rt", "crates/rules/src/more.rt"]
     sums = "".join(f"{sha256((house.root / name).read_bytes()).hexdigest()}  {name}\n" for name in names)
     sources = sha256(sums.encode()).hexdigest()
@@ -654,15 +679,15 @@ def test_version(folder):
     found = lines()
     check(found == {"revision": "unknown: this folder is no checkout that git can read", "kit": "kit 1",
                     "sources": sources,
-                    "archive": "none; 'rt staticlib capacity' makes target/staticlib/libcapacity.a"},
+                    "archive": "none; 'tools/archive' makes target/staticlib/libcapacity.a"},
           "settle --version: no checkout", str(found))
+    (house.root / ".gitignore").write_text("target/\n.gitignore\ncrates/*/out/\n")
     git = ["git", "-C", house.root, "-c", "user.name=x", "-c", "user.email=x"]
     for words in (["init", "-q"], ["add", "."], ["commit", "-q", "-m", "x"]):
         run(*git, *words)
     archive = house.root / "target/staticlib/libcapacity.a"
     archive.parent.mkdir(parents=True)
     archive.write_bytes(b"archive")
-    (house.root / ".gitignore").write_text("target/\n.gitignore\n")
     revision, made = run(*git, "rev-parse", "HEAD").stdout.decode().strip(), sha256(b"archive").hexdigest()
     found = lines(house.bin_without_rt)
     check(found == {"revision": revision, "kit": "unknown: rt, the Rattle toolchain, is not on the PATH",
