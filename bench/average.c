@@ -1,5 +1,5 @@
 /*
- * Request 3 of document 02 by hand, for speed on plain x86-64: gcc -O3, no processor flags, no intrinsics.
+ * Request 3 of document 02 by hand, for speed: gcc -O3 for the processor that bench/run names, no intrinsics.
  *
  * Nothing is allocated and no state is kept. The sheet's numbers come first. Every power of the record is looked at
  * once, for number 17; those of the control hours are read a second time.

@@ -3,9 +3,9 @@
  *
  *   timer module|c|c_tuned|module_2015|c_2015|sum|none CALLS SHEET [quiet]
  *
- * module: the proved archive. c: bench/settle.c; c_tuned: the same with TUNED. module_2015, c_2015: the same under the text of 2015. sum: no
- * settlement; the sheet's bytes are added up, eight at a time. none: the loop with the call left out. quiet: nothing is
- * printed, so that instructions can be counted.
+ * module: the proved archive. c: bench/settle.c; c_tuned: the same with TUNED. module_2015, c_2015: the same
+ * under the text of 2015. sum: no settlement; the sheet's bytes are added up, eight at a time. none: the loop
+ * with the call left out. quiet: nothing is printed, so that instructions can be counted.
  */
 #include "clock.h"
 

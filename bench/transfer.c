@@ -1,5 +1,5 @@
 /*
- * Request 1 of document 02 by hand, for speed on plain x86-64: gcc -O3, no processor flags, no intrinsics.
+ * Request 1 of document 02 by hand, for speed: gcc -O3 for the processor that bench/run names, no intrinsics.
  *
  * Nothing is allocated and no state is kept. The sheet's numbers come first. Then each entry is tried and applied to the
  * sheet itself, all in one pass; where one cannot be applied, those before it are taken back.

@@ -215,13 +215,14 @@ def all_records(modules):
 
 
 def items(words):
-    """The items of a file, each with its first line's number: one begins at the left edge and goes on indented."""
+    """The items of a file, each with its first line's number: one begins at the left edge and goes on indented, to a
+    closing bracket if it is a list over several lines."""
     found = []
     for number, line in enumerate(words.splitlines(), 1):
         line = re.sub(r"(^|\s)--(\s.*|-*)?$", "", line).rstrip()
         if not line:
             continue
-        if line[0] != " ":
+        if line[0] not in " }":
             found.append((number, [line]))
         elif found:
             found[-1][1].append(line)
@@ -304,7 +305,7 @@ def read_use(module, line):
     elif some:
         place, names = some.groups()
         place = place[len(OURS):] if place.startswith(OURS) else "library " + place
-        for name in names.split(","):
+        for name in re.split(r",\s*(?=\S)", names.strip().rstrip(",")):
             if len(name.split()) != 1:
                 raise Unknown(line)
             module.imports[name.strip()] = (place, name.strip())

@@ -1,14 +1,30 @@
 #!/bin/sh
-# Builds the C programs against the proved archive, runs them, and reads off what the archive exports, needs and uses.
-# A line for each; status 1 where one fails. First: tools/archive. CC and CXX name other compilers.
+# Builds the C programs against the proved archive, runs them, and reads off what the archive exports, needs
+# and uses. A line for each; status 1 where one fails. First: tools/archive. CC and CXX name other compilers.
+#
+#   sh tests/c/run.sh                     the archive for x86-64-v2
+#   sh tests/c/run.sh --cpu x86-64        the one for older processors, after: tools/archive --cpu x86-64
 set -eu
 cd "$(dirname "$0")/../.."
-archive=target/staticlib/libcapacity.a
-out=target/c
+# The archive, and its processor for the assembler.
+case "$*" in
+"" | "--cpu x86-64-v2")
+    cpu=x86-64-v2 archive=target/staticlib/libcapacity.a out=target/c
+    assembled_for=generic64+sse3+ssse3+sse4.1+sse4.2+popcnt+cx16
+    ;;
+"--cpu x86-64")
+    cpu=x86-64 archive=target/staticlib/x86-64/libcapacity.a out=target/c/x86-64
+    assembled_for=generic64
+    ;;
+*)
+    echo "usage: sh tests/c/run.sh [--cpu x86-64-v2|x86-64]" >&2
+    exit 2
+    ;;
+esac
 CC=${CC:-cc}
 CXX=${CXX:-c++}
 if [ ! -f "$archive" ]; then
-    echo "tests/c/run.sh: no $archive; make it with: tools/archive" >&2
+    echo "tests/c/run.sh: no $archive; make it with: tools/archive --cpu $cpu" >&2
     exit 2
 fi
 mkdir -p "$out"
@@ -95,19 +111,39 @@ done
 # A byte below the stack pointer would be lost to an interrupt that uses the same stack.
 below=$(objdump -d "$archive" | grep -c -- '-0x[0-9a-f]*(%rsp' || :)
 [ "$below" -eq 0 ] || fail "the archive uses bytes below the stack pointer, at $below places"
-echo "archive: exports $exported; needs ${needed:-nothing}; $code bytes of code, no variables"
+# No instruction that its processor may lack: the assembler takes all of them for that processor. Jumps, calls
+# and fillers are left out, since every processor has them.
+listing=$out/listing
+objdump -d --no-show-raw-insn "$archive" >"$listing"
+sed -n 's/^ *[0-9a-f]*:\t//p' "$listing" |
+    sed -e 's/[<#].*//' -e '/^j/d' -e '/^call/d' -e '/nop/d' >"$out/code.s"
+[ -s "$out/code.s" ] || fail "the archive's instructions were not listed"
+as -march=$assembled_for -o /dev/null "$out/code.s" 2>"$out/lacking" || {
+    head -n 4 "$out/lacking" >&2
+    fail "the archive has instructions that $cpu lacks"
+}
+echo "archive for $cpu: exports $exported; needs ${needed:-nothing}; $code bytes of code, no variables"
 
 # The stack: what the stored cases use, and every function's return address, pushes and locals added up.
 strict "$CC" -std=c99 -O1 -Wl,-z,now -o "$out/stack" tests/c/stack.c "$archive" || fail "stack.c does not build"
-listing=$out/listing
-objdump -d --no-show-raw-insn "$archive" >"$listing"
 words=$(grep -c -E '^[0-9a-f]+ <|[[:space:]]push[[:space:]]' "$listing")
 frames=$((8 * words))
 for locals in $(sed -n 's/.*sub  *\$\(0x[0-9a-f]*\),%rsp$/\1/p' "$listing"); do
     frames=$((frames + locals))
 done
 
+# The bars: the most stack that an entry may use, in bytes.
+bar_of() {
+    case $1 in
+    settle) echo 2352 ;;
+    settle_2015) echo 416 ;;
+    transfer) echo 1024 ;;
+    average) echo 464 ;;
+    esac
+}
+
 # The stack that an entry uses on files of its stored cases; the longest of their sheets.
+over=
 measure() {
     entry=$1
     shift
@@ -116,7 +152,9 @@ measure() {
     [ "$1" -gt 0 ] || fail "there is no stored case of capacity_$entry"
     [ "$3" -le "$frames" ] || fail "$3 bytes of stack used by capacity_$entry, $frames seen in the code"
     longest=$2
-    echo "stack: capacity_$entry, $1 stored cases, sheets to $longest bytes: at most $3 bytes"
+    bar=$(bar_of "$entry")
+    echo "stack: capacity_$entry, $1 stored cases, sheets to $longest bytes: at most $3 bytes (bar: $bar)"
+    [ "$3" -le "$bar" ] || over="$over capacity_$entry"
 }
 
 measure settle $sheets
@@ -126,3 +164,4 @@ measure settle_2015 $sheets_2015
 measure transfer "$lists"
 measure average "$records"
 echo "stack: all frames together have $frames bytes"
+[ -z "$over" ] || fail "more stack is used than the bar allows, by$over"

@@ -1,5 +1,6 @@
-// Reads a sheet from standard input and the record of an industrial complex from file descriptor 3, each at most 65,536 bytes. Prints the
-// sheet afterwards, byte for byte; of a refusal the line that a listing has, N and its number.
+// Reads a sheet from standard input and the record of an industrial complex from file descriptor 3, each at
+// most 65,536 bytes. Prints the sheet afterwards, byte for byte; of a refusal the line that a listing has, N
+// and its number.
 #![tactic(auto)]
 
 use averaging::average;
@@ -10,7 +11,7 @@ const RECORD: &str = "/dev/fd/3";
 
 // Writes the peak, and prints what is left.
 fn print_averaged(rt: &impl Print, sheet: &mut [u8], record: &[u8]) {
-    print_after(rt, average(sheet, record), sheet);
+    let _ = print_after(rt, average(sheet, record), sheet);
 }
 
 fn main(rt: HostRuntime) {

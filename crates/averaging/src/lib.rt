@@ -1,4 +1,4 @@
-// Industrial complexes: the peak by averaging, written into a sheet. Every sheet and every record is answered.
+// Industrial complexes: the peak by averaging, written into a sheet. Every sheet and record is answered.
 #![tactic(auto)]
 
 ghost use Rattle.std.specs.Prelude.{◌≡◌, ◌≤◌, ◌<◌, length};
@@ -8,13 +8,12 @@ ghost use Rattle.rules.specs.Averaging.{complex_peak, average_outcome, averaged}
 ghost use Rattle.rules.specs.Said.{said};
 
 use calendar::control_days;
-use complex_record::{complex, imported, net_average, record_refusal};
+use complex_record::{complex, imported, net_average, try_record};
 use places::peak_at;
-use refusals_sheet::sheet_refusal;
-use rules::{Answer, Header, Layout};
-use sheet::layout;
+use refusals_sheet::try_sheet;
+use rules::{Header, Layout, Refusal};
 use units::Tenths;
-use writing::put_word;
+use writing::{last_four, put};
 
 // The complex's peak, from a record that is as long as the month asks.
 fn complex_peak(h: Header, rec: &[u8]) -> Tenths
@@ -24,31 +23,27 @@ fn complex_peak(h: Header, rec: &[u8]) -> Tenths
     net_average(rec, h.days, control_days(h)).less(Tenths::stated(imported(rec)))
 }
 
-// The sheet with a peak of consumer c.
+// The sheet with a peak of consumer c. A `Sheet` only reads, so the bytes that are written come with their
+// layout.
+#[tactic(auto, using(crate::proofs::Peak::peak_put))]
 fn write_peak(s: &mut [u8], layout: Layout, c: u8, peak: Tenths)
     requires { (sheet_length layout ≤ length s.old) × (c < layout.header.consumers) }
     ensures { s.new ≡ with_peak layout c peak.0 s.old }
 {
     let at = peak_at(layout, c);
-    put_word(&mut s[at..], peak.0);
+    put(s, at, last_four(peak.0));
 }
 
-// Writes the peak of an industrial complex, taken from its record, into that consumer's field of a sheet. A refusal changes no byte. Where
-// the peak is written the count is 0.
-pub fn average(sheet: &mut [u8], rec: &[u8]) -> Answer
+// Writes the peak of an industrial complex, taken from its record, into that consumer's field of a sheet.
+// A refusal changes no byte. Where the peak is written the count is 0.
+#[tactic(auto, using(crate::proofs::Answered::averaging))]
+pub fn average(sheet: &mut [u8], rec: &[u8]) -> Result<usize, Refusal>
     ensures answer { said result ≡ average_outcome sheet.old rec.now }
     ensures sheet { sheet.new ≡ averaged sheet.old rec.now }
 {
-    let own = sheet_refusal(sheet);
-    if own != 0 {
-        return Answer::Refused(own);
-    }
-    let layout = layout(sheet);
-    let number = record_refusal(layout.header, rec);
-    if number != 0 {
-        return Answer::Refused(number);
-    }
+    let layout = try_sheet(sheet)?.layout;
+    try_record(layout.header, rec)?;
     let peak = complex_peak(layout.header, rec);
     write_peak(sheet, layout, complex(rec), peak);
-    Answer::Written(0)
+    Ok(0)
 }

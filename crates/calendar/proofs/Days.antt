@@ -1,4 +1,5 @@
--- Days as bits of a number: of two numbers joined, of the days that another number leaves, and of one day. Assumes nothing.
+-- Days as bits of a number: of two numbers joined, of the days that another number leaves, and of one day.
+-- Assumes nothing.
 use mathlib.Core.Path.{◌≡◌, refl, sym, ◌∙◌}
 use mathlib.Core.Bool.{Bool, true, false, not, ◌&&◌, ◌||◌, and-true, and-false, or-false}
 use Prim.Native.Nat.{ℕ, zero, suc, zero-le, ◌+◌, ◌-◌, ◌*◌, ◌/◌, ◌%◌, ◌^◌, ◌<◌}
@@ -13,7 +14,8 @@ use Rattle.calendar.specs.Days.{day_on}
 
 -- Two digits joined, by the four cases.
 module _ (f : ℕ → ℕ → ℕ) (g : Bool → Bool → Bool)
-    (none : eqb (f 0 0) 1 ≡ g false false) (second : eqb (f 0 1) 1 ≡ g false true) (first : eqb (f 1 0) 1 ≡ g true false) (two : eqb (f 1 1) 1 ≡ g true true) where
+    (none : eqb (f 0 0) 1 ≡ g false false) (second : eqb (f 0 1) 1 ≡ g false true)
+    (first : eqb (f 1 0) 1 ≡ g true false) (two : eqb (f 1 1) 1 ≡ g true true) where
   digits : (x y : ℕ) → x < 2 → y < 2 → eqb (f x y) 1 ≡ g (eqb x 1) (eqb y 1)
   digits zero zero p q = none
   digits zero (suc zero) p q = second
@@ -29,13 +31,15 @@ module _ (a b day : ℕ) where
   unfolding day_on
   on_both =
       rw (and_shr a b day, and_mod (a / 2 ^ day) (b / 2 ^ day) 1)
-      (digits bit_and (λ x y. x && y) refl refl refl refl (a / 2 ^ day % 2) (b / 2 ^ day % 2) (omega arith) (omega arith))
+      (digits bit_and (λ x y. x && y) refl refl refl refl
+      (a / 2 ^ day % 2) (b / 2 ^ day % 2) (omega arith) (omega arith))
 
   pub on_either : day_on (bit_or a b) day ≡ (day_on a day || day_on b day)
   unfolding day_on
   on_either =
       rw (or_shr a b day, or_mod (a / 2 ^ day) (b / 2 ^ day) 1)
-      (digits bit_or (λ x y. x || y) refl refl refl refl (a / 2 ^ day % 2) (b / 2 ^ day % 2) (omega arith) (omega arith))
+      (digits bit_or (λ x y. x || y) refl refl refl refl
+      (a / 2 ^ day % 2) (b / 2 ^ day % 2) (omega arith) (omega arith))
 
 -- The first day is the last digit, and a day after it is a day earlier in half the number.
 last : (n : ℕ) → day_on n 0 ≡ eqb (n % 2) 1
@@ -76,27 +80,35 @@ on_rest (suc n) x zero p q =
 on_rest (suc n) x (suc day) p q =
     let two = pow-succ' 2 n in
     let half : ((2 ^ suc n - 1) - x) / 2 ≡ (2 ^ n - 1) - x / 2 = omega (arith, two) in
-    rw (earlier ((2 ^ suc n - 1) - x) day, half, earlier x day) (on_rest n (x / 2) day (omega (arith, two)) (omega arith))
+    rw (earlier ((2 ^ suc n - 1) - x) day, half, earlier x day)
+    (on_rest n (x / 2) day (omega (arith, two)) (omega arith))
 
 -- A day more of those that are on.
 more : (f : ℕ → Bool) (k day : ℕ) → filled false f (k + 1) day ≡ (filled false f k day || (eqb day k && f k))
 more f k day = same (eqb day k) refl
   where
-    other : (day ≡ k → ⊥) → (t : Bool) → ltb day k ≡ t → filled false f (k + 1) day ≡ (filled false f k day || false)
-    other o true q = let l = ltb-true day k q in rw (q, lt-ltb day (k + 1) (omega arith)) (sym (or-false (f day)))
+    other : (day ≡ k → ⊥) → (t : Bool) → ltb day k ≡ t
+        → filled false f (k + 1) day ≡ (filled false f k day || false)
+    other o true q =
+        let l = ltb-true day k q in
+        rw (q, lt-ltb day (k + 1) (omega arith)) (sym (or-false (f day)))
     other o false q = let l = ltb-false day k q in rw (q, le-ltb day (k + 1) (omega arith))
 
-    same : (t : Bool) → eqb day k ≡ t → filled false f (k + 1) day ≡ (filled false f k day || (eqb day k && f k))
-    same true q = rw (eqb-true day k q, lt-ltb k (k + 1) (omega arith), le-ltb k k (le_refl k), eq-eqb k k refl)
+    same : (t : Bool) → eqb day k ≡ t
+        → filled false f (k + 1) day ≡ (filled false f k day || (eqb day k && f k))
+    same true q =
+        rw (eqb-true day k q, lt-ltb k (k + 1) (omega arith), le-ltb k k (le_refl k), eq-eqb k k refl)
     same false q = rw q (other (eqb-false day k q) (ltb day k) refl)
 
 pub none_filled : (f : ℕ → Bool) (day : ℕ) → day_on 0 day ≡ filled false f 0 day
 none_filled f day = no_day_on day ∙ sym (rw (le-ltb day 0 zero-le))
 
 module _ (f : ℕ → Bool) (on k : ℕ) (before : (day : ℕ) → day_on on day ≡ filled false f k day) where
-  pub day_joined : k < 32 → f k ≡ true → (day : ℕ) → day_on (bit_or on (1 * 2 ^ k % 2 ^ 32)) day ≡ filled false f (k + 1) day
+  pub day_joined : k < 32 → f k ≡ true
+      → (day : ℕ) → day_on (bit_or on (1 * 2 ^ k % 2 ^ 32)) day ≡ filled false f (k + 1) day
   day_joined fits is day =
-      let one : 1 * 2 ^ k % 2 ^ 32 ≡ 2 ^ k = shl_exact {a = 1} 1 k 32 (omega arith) (omega arith) ∙ one-mul (2 ^ k) in
+      let one : 1 * 2 ^ k % 2 ^ 32 ≡ 2 ^ k =
+      shl_exact {a = 1} 1 k 32 (omega arith) (omega arith) ∙ one-mul (2 ^ k) in
       rw (one, on_either on (2 ^ k) day, before day, bit_is_one_day k day, more f k day, is, and-true)
 
   pub day_off : f k ≡ false → (day : ℕ) → day_on on day ≡ filled false f (k + 1) day

@@ -23,13 +23,10 @@ pub fn control_days(h: Header) -> ControlDays
 {
     let line = line_of(h.weekday);
     let mut on: u32 = 0;
-    let mut day: u8 = 0;
-    while day < 31 {
-        let i = day as usize;
-        if line[i] == YES {
-            on = on | (1 << day);
+    for day in 0..31 {
+        if line[day] == YES {
+            on |= 1 << day;
         }
-        day += 1;
     }
     ControlDays {
         on: on & !h.holidays,
@@ -37,30 +34,25 @@ pub fn control_days(h: Header) -> ControlDays
 }
 
 // The day's bit of the control days; no day past the 32 bits has one.
+#[tactic(auto, using(crate::proofs::Shifts::shifted_out), unfolding(crate::specs::Days::day_on))]
 pub fn is_on(control: ControlDays, day: u8) -> bool
     ensures { result ≡ day_on control.on day }
 {
-    if day < 32 {
-        (control.on >> day) & 1 == 1
-    } else {
-        false
-    }
+    day < 32 && (control.on >> day) & 1 == 1
 }
 
 // A month that the table has, so that its control days are those of the weekday rule.
+#[tactic(auto, unfolding(rules::specs::ControlTable::in_table))]
 pub fn in_table(h: Header) -> bool
     ensures { result ≡ in_table h }
 {
-    (1 <= h.weekday) & (h.weekday <= 7) & (h.days <= 31)
+    1 <= h.weekday && h.weekday <= 7 && h.days <= 31
 }
 
 // Some day past the month's end has a bit in the holidays.
+#[tactic(auto, using(crate::proofs::Shifts::shifted_out))]
 pub fn holiday_past(h: Header) -> bool
     ensures { result ≡ ltb 0 (h.holidays / 2 ^ h.days) }
 {
-    if h.days < 32 {
-        0 < h.holidays >> h.days
-    } else {
-        false
-    }
+    h.days < 32 && 0 < h.holidays >> h.days
 }

@@ -34,6 +34,7 @@ pub fn control_weekdays() -> Table
 pub fn line_of(first: u8) -> Line
     ensures { result ≡ line_of first }
 {
+    // By a choice of seven: read by an index, the whole table is written to the stack in each call.
     let table = control_weekdays();
     match first {
         1 => table[0],

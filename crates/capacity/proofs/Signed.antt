@@ -53,7 +53,8 @@ count_le number count few = go (eqb number 0) refl
     go true q = few (eqb-true _ _ q)
     go false q = omega arith
 
-pub count_small : (number count : ℕ) → (number ≡ 0 → count ≤ 1333) → {o : Outcome} → o ≡ answered number count → counted o < count_end
+pub count_small : (number count : ℕ) → (number ≡ 0 → count ≤ 1333) → {o : Outcome} → o ≡ answered number count
+    → counted o < count_end
 count_small number count few e = omega (arith, ap counted e, count_le number count few)
 
 -- A settlement's count, and that of an entry that writes no result.
@@ -62,7 +63,8 @@ unfolding outcome
 settled_small s room e =
     count_small (refusal s room) (result_length (header_of s)) (λ z. length_le (month_of s) (limits s room z).month) e
 
-pub settled_2015_small : (s : List ℕ) (room : ℕ) {o : Outcome} → o ≡ outcome_2015 s room → counted o < count_end
+pub settled_2015_small : (s : List ℕ) (room : ℕ) {o : Outcome} → o ≡ outcome_2015 s room
+    → counted o < count_end
 unfolding outcome_2015 refusal_2015 tests_2015
 settled_2015_small s room e =
     count_small (refusal_2015 s room) (length_2015 (header_of s))
@@ -72,5 +74,6 @@ pub done_small : (number : ℕ) {o : Outcome} → o ≡ answered number 0 → co
 done_small number e = count_small number 0 (λ z. omega arith) e
 
 -- What an entry gets back is the outcome's number.
-pub handed_on : {z : ℤ} {o p : Outcome} → mag z < count_end → z ≡ in_c o → o ≡ p → to_z w64 (of_z w64 z) ≡ in_c p
+pub handed_on : {z : ℤ} {o p : Outcome} → mag z < count_end → z ≡ in_c o → o ≡ p
+    → to_z w64 (of_z w64 z) ≡ in_c p
 handed_on l e q = to_z-of_z {w = w64} (record { sfits = l }) ∙ e ∙ ap in_c q

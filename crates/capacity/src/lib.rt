@@ -1,4 +1,5 @@
-// The entries for C, one below the other. All answers are i64: a count, or minus the refusal's number (include/capacity.h).
+// The entries for C, one below the other. All answers are i64: a count, or minus the refusal's number
+// (include/capacity.h).
 #![tactic(auto)]
 
 ghost use Rattle.std.specs.Prelude.{◌≡◌, length, ◌<◌};
@@ -10,19 +11,19 @@ ghost use Rattle.rules.specs.Outcome2015.{outcome_2015, buffer_after_2015};
 ghost use Rattle.capacity.specs.InC.{in_c, counted, count_end};
 
 use averaging::average;
-use rules::Answer;
+use rules::Refusal;
 use settlement::settle;
 use text2015::settle_2015;
 use transfers::transfer;
 
-// An answer as one number for C. Every entry that gets an Answer hands it over here.
-fn in_c(answer: Answer) -> i64
+// An answer as one number for C. Every entry hands its answer over here.
+fn in_c(answer: Result<usize, Refusal>) -> i64
     requires { counted (said answer) < count_end }
     ensures { result ≡ in_c (said answer) }
 {
     match answer {
-        Answer::Refused(number) => -(number as i64),
-        Answer::Written(count) => count as i64,
+        Err(refusal) => -(refusal.number() as i64),
+        Ok(count) => count as i64,
     }
 }
 

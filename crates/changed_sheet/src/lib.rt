@@ -4,26 +4,25 @@
 ghost use Rattle.std.specs.Prelude.{◌≡◌};
 ghost use Rattle.rules.specs.Said.{said};
 
-use rules::Answer;
+use rules::Refusal;
 use std::io::Write;
 
-// The line that a listing has: N and the refusal's number.
-fn print_refusal(rt: &impl Print, number: u8) {
-    let _ = println!(rt; "N{number}");
-}
-
-// Of an entry that changes a sheet and writes no result. Its answer is handed on; what is printed is held to expected text.
-pub fn print_after(rt: &impl Print, answer: Answer, sheet: &[u8]) -> Answer
+// Of an entry that changes a sheet and writes no result. Its answer is handed on; what is printed is held to
+// expected text.
+pub fn print_after(
+    rt: &impl Print,
+    answer: Result<usize, Refusal>,
+    sheet: &[u8],
+) -> Result<usize, Refusal>
     ensures { said result ≡ said answer }
 {
     match answer {
-        Answer::Refused(number) => {
-            print_refusal(rt, number);
-            Answer::Refused(number)
-        }
-        Answer::Written(count) => {
+        Ok(_) => {
             let _ = rt.write_all(sheet);
-            Answer::Written(count)
+        }
+        Err(refusal) => {
+            let _ = println!(rt; "{refusal}");
         }
     }
+    answer
 }

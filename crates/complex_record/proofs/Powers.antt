@@ -1,4 +1,5 @@
--- Number 17: imported power and the powers of the hours follow each other, so they are tried as one part. Assumes nothing.
+-- Number 17: imported power and the powers of the hours follow each other, so they are tried as one part.
+-- Assumes nothing.
 use mathlib.Core.Path.{◌≡◌, refl, sym, ap₂, ◌∙◌}
 use mathlib.Core.Bool.{Bool, or-false, ◌||◌}
 use mathlib.Core.List.{List}
@@ -41,4 +42,6 @@ module _ (h : Header) (r : List ℕ) (whole : WholeRecord h r) where
       part_high r 5 (length r - 5) (1 + 2 * hours h) count (omega (arith, whole.as_long))
       ∙ any_append high 1 (2 * hours h)
       ∙ ap₂ (λ (a b : Bool). a || b) first_high
-      (sym (any_groups (λ i. high (1 + i)) 2 (hours h)) ∙ any_same _ _ (hours h) (λ i l. hour_high i) ∙ sym (or-false (any (high_at r) (hours h))))
+      (sym (any_groups (λ i. high (1 + i)) 2 (hours h))
+      ∙ any_same _ _ (hours h) (λ i l. hour_high i)
+      ∙ sym (or-false (any (high_at r) (hours h))))

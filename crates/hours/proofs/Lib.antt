@@ -1,12 +1,8 @@
 pub mod Standing
-pub mod Turns
+pub mod Wrapping
+pub mod Places
+pub mod Orders
 pub mod Evenings
+pub mod Fitting
 pub mod Known
-pub mod Signed
-pub mod LowPowers
-pub mod Lanes
-pub mod LowMonth
-pub mod Columns
-pub mod WithinCeiling
-pub mod WithinMonth
 pub mod Found

@@ -1,5 +1,5 @@
 -- The control hours of a series and of one less another, as the struct that carries their sum and count.
-use Rattle.std.specs.Prelude.{◌≡◌, ℕ, ◌+◌, ◌*◌, ◌≤◌, Bool, cond, ◌&&◌, List, length, nat_le}
+use Rattle.std.specs.Prelude.{ℕ, ◌*◌, Bool, cond, ◌&&◌, List, length, nat_le}
 use Rattle.rules.specs.declared.Series.{Series}
 use Rattle.rules.specs.Range.{sum, when}
 use Rattle.rules.specs.ControlHours.{average}
@@ -9,7 +9,8 @@ use Rattle.calendar.specs.Days.{day_on}
 use Rattle.hours.specs.declared.control.Control.{Control}
 use Rattle.hours.specs.Series.{stands, power_in, net_in}
 
--- The sum of a series over the hours 17 to 22 of the days that are marked, among the first n, and how many hours these are.
+-- The sum of a series over the hours 17 to 22 of the days that are marked, among the first n, and how many
+-- hours these are.
 abbrev pub control_of : (ℕ → ℕ) → ℕ → ℕ → Control
 control_of series on n =
     record {
@@ -17,9 +18,14 @@ control_of series on n =
       count = sum (λ d. when (day_on on d) 6) n;
     }
 
--- Of a month of so many days; nothing where not all of its powers stand in the part, or where it has more than 31 days.
+-- Of no hours.
+abbrev pub no_hours : Control
+no_hours = record { counted = tenths 0; count = 0 }
+
+-- Of a month of so many days; nothing where not all of its powers stand in the part, or where it has more
+-- than 31 days.
 unfoldable pub control_in : Bool → (ℕ → ℕ) → ℕ → ℕ → Control
-control_in standing series days on = cond (nat_le days 31 && standing) (control_of series on days) (record { counted = tenths 0; count = 0 })
+control_in standing series days on = cond (nat_le days 31 && standing) (control_of series on days) no_hours
 
 -- The control hours of a series in a part.
 abbrev pub power_control : List ℕ → Series → ℕ → ℕ → Control
@@ -28,17 +34,9 @@ power_control part x days on = control_in (stands (length part) x (24 * days)) (
 -- Those of one series less another.
 abbrev pub net_control : List ℕ → Series → Series → ℕ → ℕ → Control
 net_control part of taken days on =
-    control_in (stands (length part) of (24 * days) && stands (length part) taken (24 * days)) (net_in part of taken) days on
+    control_in (stands (length part) of (24 * days) && stands (length part) taken (24 * days))
+    (net_in part of taken) days on
 
 -- The average of control hours, in units of which so many are a tenth. [Control hours; Requests, 6]
 abbrev pub average_of : ℕ → Control → ℕ
 average_of fineness c = average (fineness * c.counted.0) c.count
-
--- Numbers that are v in all, each at most a bound: some in the upper 32 bits of a word, the others in the lower ones.
-pub record Twos (v most word : ℕ) : Type 0 where
-  pub upper : ℕ
-  pub lower : ℕ
-  pub is_word : word ≡ upper * 4294967296 + lower
-  pub in_all : upper + lower ≡ v
-  pub upper_fits : upper ≤ most
-  pub lower_fits : lower ≤ most

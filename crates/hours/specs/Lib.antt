@@ -1,6 +1,5 @@
 pub mod Series
 pub mod Sums
+pub mod Order
 pub mod Control
-pub mod Low
-pub mod Within
 pub mod Figures

@@ -1,9 +1,11 @@
 -- k4's sums over the hours, as the struct that carries them.
-use Rattle.std.specs.Prelude.{◌≡◌, ℕ, ◌*◌, ◌≤◌, min, cond, ◌&&◌, List, length}
+use Rattle.std.specs.Prelude.{ℕ, ◌*◌, min, max, Bool, cond, ◌&&◌, List, length, Result}
+use Rattle.std.specs.Prelude.Result.{Ok, Err}
 use Rattle.rules.specs.declared.Series.{Series}
-use Rattle.rules.specs.Range.{sum}
+use Rattle.rules.specs.declared.Refusal.{Refusal}
+use Rattle.rules.specs.Range.{sum, any}
+use Rattle.rules.specs.Refusals.{too_high}
 use Rattle.rules.specs.Sheet.{series}
-use Rattle.laws.specs.Bounds.{most_word}
 use Rattle.units.specs.Sums.{tenths}
 use Rattle.hours.specs.declared.k4.K4.{K4}
 use Rattle.hours.specs.Series.{stands, power_in}
@@ -14,18 +16,6 @@ asked_of possible S i = min S (possible i)
 
 abbrev pub met_of : (ℕ → ℕ) → (ℕ → ℕ) → ℕ → ℕ → ℕ
 met_of working possible S i = min (asked_of possible S i) (working i)
-
--- The sums of the hours before hour n, and that they fit.
-abbrev pub K4Before : (ℕ → ℕ) → (ℕ → ℕ) → ℕ → ℕ → K4 → Type 0
-K4Before working possible S n k =
-    (k.asked.0 ≡ sum (asked_of possible S) n)
-    × (k.met.0 ≡ sum (met_of working possible S) n)
-    × (k.asked.0 ≤ most_word * n)
-    × (k.met.0 ≤ most_word * n)
-
--- The same of a month of columns: working powers stand at the part's front, possible ones after them.
-abbrev pub ColumnsSummed : List ℕ → ℕ → ℕ → K4 → Type 0
-ColumnsSummed part days S k = K4Before (power_in part (series 0 4)) (power_in part (series (96 * days) 4)) S (24 * days) k
 
 -- Of no hours.
 abbrev pub no_sums : K4
@@ -42,3 +32,19 @@ k4_in part working possible days S =
     cond (stands (length part) working (24 * days) && stands (length part) possible (24 * days))
     (k4_of (power_in part working) (power_in part possible) S (24 * days))
     no_sums
+
+-- Some power of hour i is above the ceiling, of hours that stand some bytes apart: the working powers begin
+-- at the part's front.
+abbrev pub hour_high : List ℕ → ℕ → ℕ → ℕ → ℕ → Bool
+hour_high part step possible outside i =
+    too_high
+    (max
+    (max (power_in part (series 0 step) i) (power_in part (series possible step) i))
+    (power_in part (series outside step) i))
+
+-- k4's sums of n such hours, or number 9.
+unfoldable pub sums_of_hours : List ℕ → ℕ → ℕ → ℕ → ℕ → ℕ → Result K4 Refusal
+sums_of_hours part step possible outside n S =
+    cond (any (hour_high part step possible outside) n)
+    (Err Refusal.AboveCeiling)
+    (Ok (k4_of (power_in part (series 0 step)) (power_in part (series possible step)) S n))

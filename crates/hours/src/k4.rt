@@ -1,12 +1,9 @@
 // k4's sums over the hours.
-ghost use Rattle.std.specs.Prelude.{◌≡◌, ◌+◌, ◌*◌, ◌<◌, ◌≤◌};
-ghost use Rattle.rules.specs.Sheet.{series};
-ghost use Rattle.laws.specs.Bounds.{most_word};
-ghost use Rattle.hours.specs.Series.{Stands, power_in};
-ghost use Rattle.hours.specs.Sums.{K4Before, k4_in, no_sums};
+ghost use Rattle.std.specs.Prelude.{◌≡◌, ◌+◌, ◌*◌, ◌≤◌, length};
+ghost use Rattle.hours.specs.Sums.{k4_in, no_sums, sums_of_hours};
 
-use crate::series::{power, stands};
-use rules::Series;
+use crate::series::{both_stand, power, power_at};
+use rules::{Refusal, Series};
 use units::Tenths;
 
 // Over the hours: m, and what was met of it (k4).
@@ -14,13 +11,6 @@ use units::Tenths;
 pub struct K4 {
     pub asked: Tenths,
     pub met: Tenths,
-}
-
-// k4's sums, taken as if every power were as low as the work needs it, and whether they are right.
-#[derive(Drop)]
-pub(crate) struct TriedSums {
-    pub(crate) right: bool,
-    pub(crate) sums: K4,
 }
 
 // Those of no hours.
@@ -33,82 +23,46 @@ pub(crate) fn no_sums() -> K4
     }
 }
 
-// k4's sums with hour i, for a summed capacity S.
-fn with_hour(k: K4, part: &[u8], working: Series, possible: Series, i: usize, summed: Tenths) -> K4
-    requires stands { Stands part.now working (i + 1) × Stands part.now possible (i + 1) × (i < 7000) }
-    requires so_far { K4Before (power_in part.now working) (power_in part.now possible) summed.0 i k }
-    ensures { K4Before (power_in part.now working) (power_in part.now possible) summed.0 (i + 1) result }
-{
-    let m = summed.smaller(Tenths::stated(power(part, possible, i)));
-    let met = m.smaller(Tenths::stated(power(part, working, i)));
-    K4 {
-        asked: k.asked.plus(m),
-        met: k.met.plus(met),
-    }
-}
-
-// The same with so many hours from one on.
-fn with_hours(
-    k: K4,
+// k4's sums for a summed capacity S of so many hours, each STEP bytes after the one before it; refused where
+// a power of theirs is above the ceiling. The largest power is tried once, at the end. Where it is within the
+// ceiling, an S above the ceiling is as one at it, and no sum leaves 32 bits.
+pub(crate) fn month_sums<const STEP: usize>(
     part: &[u8],
-    working: Series,
-    possible: Series,
-    from: usize,
-    count: usize,
+    possible: usize,
+    outside: usize,
+    hours: usize,
     summed: Tenths,
-) -> K4
-    requires stands { Stands part.now working (from + count) × Stands part.now possible (from + count) × (from + count ≤ 6120) }
-    requires so_far { K4Before (power_in part.now working) (power_in part.now possible) summed.0 from k }
-    ensures { K4Before (power_in part.now working) (power_in part.now possible) summed.0 (from + count) result }
+) -> Result<K4, Refusal>
+    requires inside { outside + STEP * hours + 4 ≤ length part.now + STEP }
+    requires small { (possible ≤ outside) × (4 ≤ STEP) × (STEP ≤ 12) × (hours ≤ 744) }
+    ensures { result ≡ sums_of_hours part.now STEP possible outside hours summed.0 }
 {
-    let mut sums = k;
-    let mut i: usize = 0;
-    while i < count {
-        sums = with_hour(sums, part, working, possible, from + i, summed);
-        i += 1;
+    let held = summed.0.min(Tenths::CEILING) as u32;
+    let mut most: u32 = 0;
+    let mut asked: u32 = 0;
+    let mut met: u32 = 0;
+    for i in 0..hours {
+        let w = power_at(part, STEP * i);
+        let p = power_at(part, possible + STEP * i);
+        let o = power_at(part, outside + STEP * i);
+        let m = held.min(p);
+        most = most.max(w.max(p).max(o));
+        asked = asked.wrapping_add(m);
+        met = met.wrapping_add(m.min(w));
     }
-    sums
-}
-
-// k4's sums of so many turns of so many hours each. Its callers differ in the hours of a turn: of one number for all, the compiler makes one loop in
-// which it does not know the step.
-fn through_hours(
-    part: &[u8],
-    working: Series,
-    possible: Series,
-    turns: usize,
-    turn: usize,
-    summed: Tenths,
-) -> K4
-    requires { Stands part.now working (turn * turns) × Stands part.now possible (turn * turns) × (turn * turns ≤ 6120) }
-    ensures { K4Before (power_in part.now working) (power_in part.now possible) summed.0 (turn * turns) result }
-{
-    let mut sums = no_sums();
-    let mut q: usize = 0;
-    while q < turns {
-        sums = with_hours(sums, part, working, possible, turn * q, turn, summed);
-        q += 1;
+    if Tenths::CEILING < most as u64 {
+        return Err(Refusal::AboveCeiling);
     }
-    sums
+    Ok(K4 {
+        asked: Tenths(asked as u64),
+        met: Tenths(met as u64),
+    })
 }
 
-// k4's sums over a month of so many days, hour by hour, 12 bytes to an hour. The step is written out, so that the compiler knows it.
-fn by_hour(part: &[u8], working: u16, possible: u16, days: u8, summed: Tenths) -> K4
-    requires { Stands part.now (series working 12) (24 * days) × Stands part.now (series possible 12) (24 * days) }
-    ensures { K4Before (power_in part.now (series working 12)) (power_in part.now (series possible 12)) summed.0 (24 * days) result }
-{
-    let w = Series {
-        start: working,
-        step: 12,
-    };
-    let p = Series {
-        start: possible,
-        step: 12,
-    };
-    through_hours(part, w, p, 4 * (days as usize), 6, summed)
-}
-
-// k4's sums over a month of so many days, for a summed capacity S. There are none where the part ends before the powers do.
+// k4's sums over a month of so many days, whatever its series and powers are. There are none where the part
+// ends before the powers do. It stays for what `hour_figures` promises of any series; no sheet has one that
+// comes here.
+#[tactic(auto, unfolding(crate::specs::Sums::k4_in))]
 pub(crate) fn k4_sums(
     part: &[u8],
     working: Series,
@@ -116,15 +70,23 @@ pub(crate) fn k4_sums(
     days: u8,
     summed: Tenths,
 ) -> K4
-    ensures sums { result ≡ k4_in part.now working possible days summed.0 }
-    ensures fits { (result.asked.0 ≤ most_word * (24 * days)) × (result.met.0 ≤ most_word * (24 * days)) }
+    ensures { result ≡ k4_in part.now working possible days summed.0 }
 {
-    let hours = 24 * (days as u16);
-    if !(stands(part, working, hours) & stands(part, possible, hours)) {
+    let hours = 24 * days as u16;
+    if !both_stand(part, working, possible, hours) {
         return no_sums();
     }
-    if (working.step == 12) & (possible.step == 12) {
-        return by_hour(part, working.start, possible.start, days, summed);
+    let mut asked: u64 = 0;
+    let mut met: u64 = 0;
+    for i in 0..hours as usize {
+        let p = power(part, possible, i) as u64;
+        let m = summed.0.min(p);
+        asked += m;
+        let w = power(part, working, i) as u64;
+        met += m.min(w);
     }
-    through_hours(part, working, possible, 24 * (days as usize), 1, summed)
+    K4 {
+        asked: Tenths(asked),
+        met: Tenths(met),
+    }
 }

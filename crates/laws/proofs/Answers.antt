@@ -30,7 +30,8 @@ module _ (number : ℕ) (changed before : List ℕ) where
   is_changed none = rw (eq-eqb _ _ none)
 
   -- What holds of the buffer as it was, and of the changed one, holds of the buffer afterwards.
-  pub either : (P : List ℕ → Type 0) → (number ≡ 0 → P changed) → P before → P (lent_after number changed before)
+  pub either : (P : List ℕ → Type 0) → (number ≡ 0 → P changed) → P before
+      → P (lent_after number changed before)
   unfolding lent_after
   either P new old = go (eqb number 0) refl
     where
@@ -39,7 +40,8 @@ module _ (number : ℕ) (changed before : List ℕ) where
       go false e = old
 
   -- Where no number applies, another change that is the same leaves the same buffer.
-  pub same_after : (changed' : List ℕ) → (number ≡ 0 → changed' ≡ changed) → lent_after number changed' before ≡ lent_after number changed before
+  pub same_after : (changed' : List ℕ) → (number ≡ 0 → changed' ≡ changed)
+      → lent_after number changed' before ≡ lent_after number changed before
   unfolding lent_after
   same_after changed' same = go (eqb number 0) refl
     where
@@ -54,7 +56,8 @@ module _ (number : ℕ) (changed before : List ℕ) where
       let q : number ≡ 0 → ⊥ = λ z. p (e ∙ z) in
       (rw e (sym (says_refused number count q)), sym (kept q))
 
-  pub let_through : (count : ℕ) → number ≡ 0 → (written count ≡ answered number count) × (changed ≡ lent_after number changed before)
+  pub let_through : (count : ℕ) → number ≡ 0
+      → (written count ≡ answered number count) × (changed ≡ lent_after number changed before)
   let_through count none = (sym (says_written number count none), sym (is_changed none))
 
 -- Entries that change a sheet: the sheet's own numbers, and then others.
@@ -62,15 +65,18 @@ module _ (s : List ℕ) (rest : List Test) (changed : List ℕ) where
   abbrev all : ℕ
   all = first_of (sheet_tests s ++ rest)
 
-  pub own_refused : {n : ℕ} → n ≡ first_of (sheet_tests s) → (n ≡ 0 → ⊥) → (refused n ≡ answered all 0) × (s ≡ lent_after all changed s)
+  pub own_refused : {n : ℕ} → n ≡ first_of (sheet_tests s) → (n ≡ 0 → ⊥)
+      → (refused n ≡ answered all 0) × (s ≡ lent_after all changed s)
   own_refused e p = turned_down all changed s 0 (e ∙ first_stands (sheet_tests s) rest (sheet_numbered s) (λ z. p (e ∙ z))) p
 
   module _ (own : first_of (sheet_tests s) ≡ 0) where
     next : first_of rest ≡ all
     next = first_next (sheet_tests s) rest (sheet_numbered s) own
 
-    pub rest_refused : {n : ℕ} → n ≡ first_of rest → (n ≡ 0 → ⊥) → (refused n ≡ answered all 0) × (s ≡ lent_after all changed s)
+    pub rest_refused : {n : ℕ} → n ≡ first_of rest → (n ≡ 0 → ⊥)
+        → (refused n ≡ answered all 0) × (s ≡ lent_after all changed s)
     rest_refused e p = turned_down all changed s 0 (e ∙ next) p
 
-    pub none_refused : {n : ℕ} → n ≡ first_of rest → n ≡ 0 → (written 0 ≡ answered all 0) × (changed ≡ lent_after all changed s)
+    pub none_refused : {n : ℕ} → n ≡ first_of rest → n ≡ 0
+        → (written 0 ≡ answered all 0) × (changed ≡ lent_after all changed s)
     none_refused e z = let_through all changed s 0 (sym next ∙ sym e ∙ z)

@@ -1,5 +1,5 @@
--- An array that agrees with a function at each of its places: when it is made, when one place is set, and as another function. Assumes
--- nothing.
+-- An array that agrees with a function at each of its places: when it is made, when one place is set, and as
+-- another function. Assumes nothing.
 use mathlib.Core.Path.{◌≡◌, refl, sym, ◌∙◌}
 use mathlib.Core.Bool.{Bool, true, false, cond}
 use mathlib.Core.List.{List, [], ◌∷◌}
@@ -17,28 +17,36 @@ pub record Agrees {A : Type 0} (n : ℕ) (d : A) (f : ℕ → A) (xs : List A) :
   pub each : (i : ℕ) → i < n → get_or xs i d ≡ f i
 
 module _ {A : Type 0} (n : ℕ) (d : A) where
-  pub agrees_as : {f g : ℕ → A} {xs : List A} → ((i : ℕ) → i < n → f i ≡ g i) → Agrees n d f xs → Agrees n d g xs
+  pub agrees_as : {f g : ℕ → A} {xs : List A} → ((i : ℕ) → i < n → f i ≡ g i) → Agrees n d f xs
+      → Agrees n d g xs
   agrees_as e k = record { wide = k.wide; each = λ i l. k.each i l ∙ e i l }
 
   pub agrees_filled : (x : A) {f : ℕ → A} → ((i : ℕ) → i < n → x ≡ f i) → Agrees n d f (replicate n x)
-  agrees_filled x e = record { wide = length-replicate {A = A} n x; each = λ i l. get_or-replicate {A = A} n i x d l ∙ e i l }
+  agrees_filled x e =
+      record { wide = length-replicate {A = A} n x; each = λ i l. get_or-replicate {A = A} n i x d l ∙ e i l }
 
-  pub Agrees-set : {f g : ℕ → A} {xs : List A} (i : ℕ) {v : A} → i < n → v ≡ g i → ((j : ℕ) → j < n → (j ≡ i → ⊥) → f j ≡ g j) → Agrees n d f xs
+  pub Agrees-set : {f g : ℕ → A} {xs : List A} (i : ℕ) {v : A} → i < n → v ≡ g i
+      → ((j : ℕ) → j < n → (j ≡ i → ⊥) → f j ≡ g j) → Agrees n d f xs
       → Agrees n d g (set xs i v)
   Agrees-set {f} {g} {xs} i {v} b e other k = record { wide = length-set xs i v ∙ k.wide; each = λ j l. go j l (eqb j i) refl }
     where
       go : (j : ℕ) → j < n → (t : Bool) → eqb j i ≡ t → get_or (set xs i v) j d ≡ g j
       go j l true same = rw (eqb-true j i same) (get_or-set_same xs i v d (omega (arith, k.wide)) ∙ e)
-      go j l false apart = let q = eqb-false j i apart in get_or-set_other xs i j v d q ∙ k.each j l ∙ other j l q
+      go j l false apart =
+          let q = eqb-false j i apart in get_or-set_other xs i j v d q ∙ k.each j l ∙ other j l q
 
 -- The array is then the list of what f gives, and the other way round.
-same_listed : {A : Type 0} (d : A) (f : ℕ → A) (n : ℕ) (xs : List A) → length xs ≡ n → ((i : ℕ) → i < n → get_or xs i d ≡ f i) → xs ≡ listed f n
+same_listed : {A : Type 0} (d : A) (f : ℕ → A) (n : ℕ) (xs : List A) → length xs ≡ n
+    → ((i : ℕ) → i < n → get_or xs i d ≡ f i) → xs ≡ listed f n
 unfolding listed
 same_listed d f zero [] e h = refl
 same_listed d f zero (x ∷ xs) e h = absurd (omega (arith, e))
 same_listed d f (suc n) [] e h = absurd (omega (arith, e))
 same_listed d f (suc n) (x ∷ xs) e h =
-    rw (h 0 (omega arith), same_listed d (λ i. f (suc i)) n xs (omega (arith, e)) (λ i l. h (suc i) (omega arith)))
+    rw (
+      h 0 (omega arith),
+      same_listed d (λ i. f (suc i)) n xs (omega (arith, e)) (λ i l. h (suc i) (omega arith)),
+    )
 
 pub agrees_listed : {A : Type 0} {n : ℕ} {d : A} {f : ℕ → A} {xs : List A} → Agrees n d f xs → xs ≡ listed f n
 agrees_listed {n = n} {d = d} {f = f} {xs = xs} k = same_listed d f n xs k.wide k.each
@@ -65,8 +73,10 @@ module _ {A : Type 0} (n : ℕ) (d x : A) (f : ℕ → A) where
   pub filled_none : Agrees n d (filled x f 0) (replicate n x)
   filled_none = agrees_filled n d x (λ i l. sym (rw (le-ltb i 0 zero-le)))
 
-  pub filled_more : {xs : List A} (k : ℕ) {v : A} → k < n → v ≡ f k → Agrees n d (filled x f k) xs → Agrees n d (filled x f (k + 1)) (set xs k v)
-  filled_more k b e = Agrees-set n d k b (e ∙ sym (rw (lt-ltb k (k + 1) (omega arith)))) (λ j l o. same j o (ltb j k) refl)
+  pub filled_more : {xs : List A} (k : ℕ) {v : A} → k < n → v ≡ f k → Agrees n d (filled x f k) xs
+      → Agrees n d (filled x f (k + 1)) (set xs k v)
+  filled_more k b e =
+      Agrees-set n d k b (e ∙ sym (rw (lt-ltb k (k + 1) (omega arith)))) (λ j l o. same j o (ltb j k) refl)
     where
       same : (j : ℕ) → (j ≡ k → ⊥) → (t : Bool) → ltb j k ≡ t → filled x f k j ≡ filled x f (k + 1) j
       same j o true q = let l = ltb-true j k q in rw (q, lt-ltb j (k + 1) (omega arith))

@@ -12,9 +12,24 @@ use Rattle.rules.specs.Month.{hours}
 use Rattle.rules.specs.Sheet.{header_of, month_of}
 use Rattle.rules.specs.Refusals.{sheet_tests, first_of, applies}
 use Rattle.rules.specs.ComplexRecord.{record_width, complex, imported, drawn, sent}
-use Rattle.rules.specs.Averaging.{bad_record, high_at, high_record, record_tests, average_tests, average_refusal}
+use Rattle.rules.specs.Averaging.{
+  bad_record,
+  high_at,
+  high_record,
+  record_tests,
+  average_tests,
+  average_refusal,
+}
 use Rattle.laws.proofs.Range.{any_clear}
-use Rattle.laws.proofs.Refusals.{none_applies, first_both, none_of, not_true, high_clear, sheet_numbered, sheet_limits}
+use Rattle.laws.proofs.Refusals.{
+  none_applies,
+  first_both,
+  none_of,
+  not_true,
+  high_clear,
+  sheet_numbered,
+  sheet_limits,
+}
 
 -- A record that 16 lets pass: it is as long as the month asks, and names a consumer of the sheet.
 pub record WholeRecord (h : Header) (r : List ℕ) : Type 0 where
@@ -32,7 +47,10 @@ module _ (h : Header) (r : List ℕ) where
   unfolding bad_record
   whole_record e =
       let a = none_of _ e in
-      record { as_long = sym (eqb-true _ _ (not_true _ a.1.0)) ∙ eqb-true _ _ (not_true _ a.1.1.0); complex = leb-false _ _ a.1.1.1.0 }
+      record {
+        as_long = sym (eqb-true _ _ (not_true _ a.1.0)) ∙ eqb-true _ _ (not_true _ a.1.1.0);
+        complex = leb-false _ _ a.1.1.1.0;
+      }
 
   low_record : high_record h r ≡ false → LowRecord h r
   unfolding high_record high_at
@@ -44,7 +62,10 @@ module _ (h : Header) (r : List ℕ) where
 
   pub record_limits : first_of (record_tests h r) ≡ 0 → WholeRecord h r × LowRecord h r
   unfolding record_tests applies
-  record_limits e = (whole_record (none_applies (record_tests h r) tt e 16), low_record (none_applies (record_tests h r) tt e 17))
+  record_limits e = (
+    whole_record (none_applies (record_tests h r) tt e 16),
+    low_record (none_applies (record_tests h r) tt e 17),
+  )
 
 -- A record that is taken: the sheet keeps to its limits, and so does the record.
 pub averaged_limits : (s r : List ℕ) → average_refusal s r ≡ 0

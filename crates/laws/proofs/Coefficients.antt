@@ -10,7 +10,25 @@ use Rattle.rules.specs.declared.Header.{Header}
 use Rattle.rules.specs.declared.Ratio.{Ratio}
 use Rattle.rules.specs.Month.{Producer, hours}
 use Rattle.rules.specs.Limits.{ProducerLimits}
-use Rattle.rules.specs.Coefficients.{ratio, share, millionths_of, penalty, less_penalty, exact_k1, k1, k2, asked, met, met_over, exact_k4, k4, k5, from_k5, in_order, others}
+use Rattle.rules.specs.Coefficients.{
+  ratio,
+  share,
+  millionths_of,
+  penalty,
+  less_penalty,
+  exact_k1,
+  k1,
+  k2,
+  asked,
+  met,
+  met_over,
+  exact_k4,
+  k4,
+  k5,
+  from_k5,
+  in_order,
+  others,
+}
 use Rattle.laws.proofs.Range.{sum_mono}
 use Rattle.laws.proofs.Units.{rounded_over_0, rounded_at_most, rounded_times}
 
@@ -21,8 +39,10 @@ average_is total zero = sym (rounded_over_0 total)
 average_is total (suc n) = refl
 
 -- An average is not above what none of its figures is above, in units of any fineness.
-pub average_at_most : (fineness most n : ℕ) {total : ℕ} → total ≤ most * n → average (fineness * total) n ≤ fineness * most
-average_at_most fineness most n l = rw average_is (rounded_at_most (fineness * most) n (omega (arith, mul-le-mul_left fineness l)))
+pub average_at_most : (fineness most n : ℕ) {total : ℕ} → total ≤ most * n
+    → average (fineness * total) n ≤ fineness * most
+average_at_most fineness most n l =
+    rw average_is (rounded_at_most (fineness * most) n (omega (arith, mul-le-mul_left fineness l)))
 
 pub ratio_is : (r : Ratio) → millionths_of r ≡ rounded (r.part * one) r.whole
 unfolding millionths_of share
@@ -39,7 +59,8 @@ penalty_of_some zero x l = absurd (omega arith)
 penalty_of_some (suc T) x l = refl
 
 -- So k1 of some T, with a hundred taken out of T in thousandths and out of the million.
-pub penalty_rounded : (T x : ℕ) → 0 < T → millionths_of (less_penalty T x) ≡ rounded ((in_thousandths T - x) * 10000) T
+pub penalty_rounded : (T x : ℕ) → 0 < T
+    → millionths_of (less_penalty T x) ≡ rounded ((in_thousandths T - x) * 10000) T
 unfolding in_thousandths
 penalty_rounded T x l =
     let part : (T * 100 - x) * one ≡ (T * 100 - x) * 10000 * 100 = omega arith in
@@ -105,7 +126,8 @@ module _ (h : Header) (p : Producer) (l : ProducerLimits h p) where
 
   pub in_order_at_most : (T S : ℕ) → AtMost1 (in_order h p T S)
   unfolding in_order
-  in_order_at_most T S = each (k1_at_most h p T) (each (k2_at_most h p) (each l.k3 (each (k4_at_most h p S) from_k5_at_most)))
+  in_order_at_most T S =
+      each (k1_at_most h p T) (each (k2_at_most h p) (each l.k3 (each (k4_at_most h p S) from_k5_at_most)))
 
   pub others_at_most : AtMost1 (others h p)
   unfolding others

@@ -34,7 +34,8 @@ abbrev pub evening : (ℕ → ℕ) → ℕ → ℕ
 evening g d = sum (λ t. g (24 * d + (17 + t))) 6
 
 module _ (h : Header) (g : ℕ → ℕ) (d : ℕ) where
-  counted_at_hour : (t : ℕ) → t < 24 → counted h g (24 * d + t) ≡ when (leb 17 t && leb t 22 && control_day h d) (g (24 * d + t))
+  counted_at_hour : (t : ℕ) → t < 24
+      → counted h g (24 * d + t) ≡ when (leb 17 t && leb t 22 && control_day h d) (g (24 * d + t))
   unfolding counted control_hour
   counted_at_hour t l =
       let hour : (24 * d + t) % 24 ≡ t = omega arith in
@@ -45,7 +46,8 @@ module _ (h : Header) (g : ℕ → ℕ) (d : ℕ) where
   unfolding when
   early t l = counted_at_hour t (omega arith) ∙ rw (lt-leb 17 t l)
 
-  evening_hour : (t : ℕ) → t < 6 → counted h g (24 * d + (17 + t)) ≡ when (control_day h d) (g (24 * d + (17 + t)))
+  evening_hour : (t : ℕ) → t < 6
+      → counted h g (24 * d + (17 + t)) ≡ when (control_day h d) (g (24 * d + (17 + t)))
   evening_hour t l =
       let last : 17 + t ≤ 22 = omega arith in
       counted_at_hour (17 + t) (omega arith) ∙ rw (le-leb 17 (17 + t) (omega arith), le-leb (17 + t) 22 last)
@@ -62,7 +64,8 @@ module _ (h : Header) (g : ℕ → ℕ) (d : ℕ) where
         sum_append (λ t. counted h g (24 * d + t)) 17 7,
         sum_append (λ t. counted h g (24 * d + (17 + t))) 6 1,
         sum_zero (λ t. counted h g (24 * d + t)) 17 early,
-        sum_same (λ t. counted h g (24 * d + (17 + t))) (λ t. when (control_day h d) (g (24 * d + (17 + t)))) {n = 6} refl evening_hour,
+        sum_same (λ t. counted h g (24 * d + (17 + t))) (λ t. when (control_day h d) (g (24 * d + (17 + t)))) {n =
+            6} refl evening_hour,
         sum-when (control_day h d) (λ t. g (24 * d + (17 + t))) 6,
         last_hour,
       )
@@ -71,7 +74,8 @@ module _ (h : Header) (g : ℕ → ℕ) (d : ℕ) where
       last_hour = sum_zero (λ t. counted h g (24 * d + (17 + (6 + t)))) 1 (λ t l. let e : 17 + (6 + t) ≡ 23 = omega arith in rw e night)
 
 -- The control sum, day by day.
-pub control_by_day : (h : Header) (g : ℕ → ℕ) (n : ℕ) → sum (counted h g) (24 * n) ≡ sum (λ d. when (control_day h d) (evening g d)) n
+pub control_by_day : (h : Header) (g : ℕ → ℕ) (n : ℕ)
+    → sum (counted h g) (24 * n) ≡ sum (λ d. when (control_day h d) (evening g d)) n
 unfolding sum
 control_by_day h g zero = refl
 control_by_day h g (suc n) =
@@ -81,7 +85,8 @@ control_by_day h g (suc n) =
 -- And their count.
 pub count_by_day : (h : Header) → control_count h ≡ sum (λ d. when (control_day h d) 6) h.days
 unfolding control_count control_sum
-count_by_day h = control_by_day h once h.days ∙ sum_same _ _ {n = h.days} refl (λ d l. ap (when (control_day h d)) six)
+count_by_day h =
+    control_by_day h once h.days ∙ sum_same _ _ {n = h.days} refl (λ d l. ap (when (control_day h d)) six)
   where
     six : sum (λ t. 1) 6 ≡ 6
     six = unfold sum in refl

@@ -1,4 +1,5 @@
--- The table of control weekdays, entry by entry: what it says where it has an entry is the weekday rule. Assumes nothing.
+-- The table of control weekdays, entry by entry: what it says where it has an entry is the weekday rule.
+-- Assumes nothing.
 use mathlib.Core.Path.{◌≡◌, refl, sym, ◌∙◌}
 use mathlib.Core.Bool.{Bool, true, false, cond, ◌&&◌}
 use mathlib.Core.List.{List}
@@ -64,10 +65,15 @@ reads true = refl
 reads false = refl
 
 -- All 217: an entry says yes exactly when its day falls on Monday to Friday.
-pub entry_right : (first day : ℕ) → 1 ≤ first → first ≤ 7 → day < 31 → says first day ≡ control_weekday first day
+pub entry_right : (first day : ℕ) → 1 ≤ first → first ≤ 7 → day < 31
+    → says first day ≡ control_weekday first day
 unfolding says
 entry_right first day from to within =
-    rw (line_is first from to, get_or-listed 0 (λ d. cond (control_weekday first d) yes no) 31 day within) (reads (control_weekday first day))
+    rw (
+      line_is first from to,
+      get_or-listed 0 (λ d. cond (control_weekday first d) yes no) 31 day within,
+    )
+    (reads (control_weekday first day))
 
 -- Where there is no line, and past the end of one, the table says no.
 pub no_weekday : (first day : ℕ) → (first ≡ 0) ⊎ (7 < first) → says first day ≡ false
@@ -83,7 +89,8 @@ unfolding says
 no_day first day past = rw (get_or-eq_default (line_of first) 0 {n = day} (omega (arith, line_length first)))
 
 -- So a control day is the same by the table and by the rule.
-pub table_day_same : (h : Header) (day : ℕ) → 1 ≤ h.weekday → h.weekday ≤ 7 → day < 31 → table_day h day ≡ control_day h day
+pub table_day_same : (h : Header) (day : ℕ) → 1 ≤ h.weekday → h.weekday ≤ 7 → day < 31
+    → table_day h day ≡ control_day h day
 unfolding table_day control_day
 table_day_same h day from to within = rw (entry_right h.weekday day from to within)
 

@@ -1,4 +1,5 @@
--- The cut is the one taken row by row, and never adds; what it leaves in all, and of a single row. Assumes nothing.
+-- The cut is the one taken row by row, and never adds; what it leaves in all, and of a single row. Assumes
+-- nothing.
 use mathlib.Core.Path.{◌≡◌, refl, sym, ap, ◌∙◌}
 use mathlib.Core.Bool.{Bool, true, false, cond, ◌&&◌}
 use mathlib.Core.List.{List, [], ◌∷◌, ◌++◌, append-nil}
@@ -29,9 +30,20 @@ use Rattle.rules.specs.Cut.{
   own_rows,
 }
 use Rattle.laws.specs.ShortForm.{left_after_cut}
-use Rattle.laws.proofs.Range.{sum_more, sum_mono, sum_same, one_passed, sum_only, one_found, when_mono, when_both, when_split}
+use Rattle.laws.proofs.Range.{
+  sum_more,
+  sum_mono,
+  sum_same,
+  one_passed,
+  sum_only,
+  one_found,
+  when_mono,
+  when_both,
+  when_split,
+}
 
--- The turn of a loop over the rows: a row of its own gives as much as it has and counts in T, another's does neither.
+-- The turn of a loop over the rows: a row of its own gives as much as it has and counts in T, another's does
+-- neither.
 module _ (m : Month) (p j : ℕ) where
   left_more : left_to_cut m p (j + 1) ≡ left_to_cut m p j - own_volume m (sold m) p j
   unfolding left_to_cut
@@ -42,7 +54,8 @@ module _ (m : Month) (p j : ℕ) where
     unfolding own_volume owns when
     left_own = left_more ∙ rw (eq-eqb _ _ own)
 
-    pub support_own : (v : ℕ → ℕ) → sum (own_support m v p) (j + 1) ≡ sum (own_support m v p) j + when (support m j) (v j)
+    pub support_own : (v : ℕ → ℕ)
+        → sum (own_support m v p) (j + 1) ≡ sum (own_support m v p) j + when (support m j) (v j)
     unfolding own_support owns
     support_own v = sum_more (own_support m v p) j ∙ rw (eq-eqb _ _ own)
 
@@ -89,7 +102,8 @@ module _ (m : Month) (p : ℕ) where
       go true e = omega (arith, total_last (own_rows m p (sold m) n) (sold m n), e)
       go false e = rw append-nil (omega (arith, e))
 
-  pub row_by_row : (n : ℕ) → own_rows m p (after_cut m) n ≡ cut_in_order (excess m p) (own_rows m p (sold m) n)
+  pub row_by_row : (n : ℕ)
+      → own_rows m p (after_cut m) n ≡ cut_in_order (excess m p) (own_rows m p (sold m) n)
   unfolding own_rows cut_in_order owns
   row_by_row zero = refl
   row_by_row (suc n) = go (eqb (m.row n).producer p) refl (row_by_row n)
@@ -111,22 +125,26 @@ module _ (m : Month) (p : ℕ) where
 -- What the cut leaves in all.
 module _ (m : Month) (p : ℕ) where
   -- A producer's support and bilateral rows are all its rows.
-  pub own_split : (v : ℕ → ℕ) (n : ℕ) → sum (own_volume m v p) n ≡ sum (own_support m v p) n + sum (own_bilateral m v p) n
+  pub own_split : (v : ℕ → ℕ) (n : ℕ)
+      → sum (own_volume m v p) n ≡ sum (own_support m v p) n + sum (own_bilateral m v p) n
   unfolding sum own_volume own_support own_bilateral bilateral
   own_split v zero = refl
   own_split v (suc n) = omega (arith, own_split v n, when_split (owns m p n) (support m n) (v n))
 
   -- A row of its own, by what the rows before it left of the excess.
-  pub own_after : (j : ℕ) → (m.row j).producer ≡ p → after_cut m j ≡ (m.row j).volume - (excess m p - sum (own_volume m (sold m) p) j)
+  pub own_after : (j : ℕ) → (m.row j).producer ≡ p
+      → after_cut m j ≡ (m.row j).volume - (excess m p - sum (own_volume m (sold m) p) j)
   unfolding after_cut left_to_cut
   own_after j e = rw e
 
-  pub total_after : (n : ℕ) → sum (own_volume m (after_cut m) p) n ≡ sum (own_volume m (sold m) p) n - excess m p
+  pub total_after : (n : ℕ)
+      → sum (own_volume m (after_cut m) p) n ≡ sum (own_volume m (sold m) p) n - excess m p
   unfolding sum own_volume owns when
   total_after zero = omega arith
   total_after (suc n) = go (eqb (m.row n).producer p) refl (total_after n)
     where
-      go : (b : Bool) → eqb (m.row n).producer p ≡ b → sum (own_volume m (after_cut m) p) n ≡ sum (own_volume m (sold m) p) n - excess m p
+      go : (b : Bool) → eqb (m.row n).producer p ≡ b
+          → sum (own_volume m (after_cut m) p) n ≡ sum (own_volume m (sold m) p) n - excess m p
           → sum (own_volume m (after_cut m) p) n + cond b (after_cut m n) 0 ≡ sum (own_volume m (sold m) p) n + cond b (m.row n).volume 0 - excess m p
       go true q e = omega (arith, e, own_after n (eqb-true _ _ q))
       go false q e = omega (arith, e)
@@ -155,7 +173,8 @@ module _ (m : Month) (p : ℕ) where
   unfolding support_volume own_support owns
   support_kept none = sum_same _ _ refl (λ j l. kept j (eqb (m.row j).producer p) refl)
     where
-      kept : (j : ℕ) (b : Bool) → eqb (m.row j).producer p ≡ b → when (b && support m j) (after_cut m j) ≡ when (b && support m j) (m.row j).volume
+      kept : (j : ℕ) (b : Bool) → eqb (m.row j).producer p ≡ b
+          → when (b && support m j) (after_cut m j) ≡ when (b && support m j) (m.row j).volume
       kept j true q = ap (when (support m j)) (own_after j (eqb-true _ _ q) ∙ omega (arith, none))
       kept j false q = unfold when in refl
 
@@ -192,14 +211,17 @@ module _ (m : Month) (p : ℕ) (alone : single m p ≡ true) (j : ℕ) (l : j < 
   pub single_after : after_cut m j ≡ left_after_cut m p
   unfolding support_volume bilateral_volume
   single_after =
-      let n = m.header.rows in omega (arith, single_own (after_cut m), total_after m p n, own_split m p (sold m) n)
+      let n = m.header.rows in
+      omega (arith, single_own (after_cut m), total_after m p n, own_split m p (sold m) n)
 
 -- A single bilateral row has T 0.
-pub single_bilateral : (m : Month) (p : ℕ) → single m p ≡ true → 0 < bilateral_volume m (sold m) p → support_volume m (after_cut m) p ≡ 0
+pub single_bilateral : (m : Month) (p : ℕ) → single m p ≡ true → 0 < bilateral_volume m (sold m) p
+    → support_volume m (after_cut m) p ≡ 0
 unfolding single row_count owns
 single_bilateral m p alone some = one_found (owns m p) m.header.rows (eqb-true _ _ alone) (λ j l t. of_kind j l (eqb-true _ _ t) (support m j) refl)
   where
-    of_kind : (j : ℕ) → j < m.header.rows → (m.row j).producer ≡ p → (b : Bool) → support m j ≡ b → support_volume m (after_cut m) p ≡ 0
+    of_kind : (j : ℕ) → j < m.header.rows → (m.row j).producer ≡ p → (b : Bool) → support m j ≡ b
+        → support_volume m (after_cut m) p ≡ 0
     of_kind j l own true kind = absurd (unfold summed_capacity in omega (arith, single_summed m p alone j l own (sold m), supported, some))
       where
         supported : support_volume m (sold m) p ≡ (m.row j).volume

@@ -8,7 +8,8 @@ use native.Mathlib.Numerals.{add-one}
 use native.Mathlib.Omega.{arith}
 use Rattle.rules.specs.Range.{sum, any, when}
 
--- Nowhere above, so is the sum; everywhere the same, so is the sum. The two counts may be two names of one number.
+-- Nowhere above, so is the sum; everywhere the same, so is the sum. The two counts may be two names of one
+-- number.
 below : (f g : ℕ → ℕ) (n : ℕ) → ((i : ℕ) → i < n → f i ≤ g i) → sum f n ≤ sum g n
 unfolding sum
 below f g zero h = zero-le
@@ -23,7 +24,8 @@ pub sum_same : (f g : ℕ → ℕ) {n n' : ℕ} → n ≡ n' → ((i : ℕ) → 
 sum_same f g e h = le_antisymm (sum_mono f g e (λ i l. le_of_eq (h i l))) (sum_mono g f (sym e) (λ i l. le_of_eq (sym (h i (rw (sym e) l)))))
 
 -- Two functions that differ at one place below n: their sums differ by what they have there.
-pub sum_one : (f g : ℕ → ℕ) (i n : ℕ) → i < n → ((j : ℕ) → j < n → (j ≡ i → ⊥) → f j ≡ g j) → sum f n + g i ≡ sum g n + f i
+pub sum_one : (f g : ℕ → ℕ) (i n : ℕ) → i < n → ((j : ℕ) → j < n → (j ≡ i → ⊥) → f j ≡ g j)
+    → sum f n + g i ≡ sum g n + f i
 unfolding sum
 sum_one f g i zero l h = absurd (omega arith)
 sum_one f g i (suc n) l h = ⊎_elim last (λ b. earlier (sum_one f g i n b (λ j c. h j (omega arith))) b) (eq-or-lt_of_le (le_of_suc-le-suc l))
@@ -46,7 +48,8 @@ sum-le f b (suc n) h =
     rw suc-mul (omega (arith, h n (omega arith)))
 
 -- Nowhere above, the one taken a times and the other b times, so are the sums.
-pub sum_times : (a b : ℕ) (f g : ℕ → ℕ) (n : ℕ) → ((i : ℕ) → i < n → a * f i ≤ b * g i) → a * sum f n ≤ b * sum g n
+pub sum_times : (a b : ℕ) (f g : ℕ → ℕ) (n : ℕ) → ((i : ℕ) → i < n → a * f i ≤ b * g i)
+    → a * sum f n ≤ b * sum g n
 unfolding sum
 sum_times a b f g zero h = omega arith
 sum_times a b f g (suc n) h = omega (arith, sum_times a b f g n (λ i l. h i (omega arith)), h n (omega arith))
@@ -100,7 +103,8 @@ module _ (test : ℕ → Bool) where
   pub one_passed : (i n : ℕ) → i < n → test i ≡ true → 1 ≤ passed n
   unfolding sum when
   one_passed i zero l t = absurd (omega arith)
-  one_passed i (suc n) l t = ⊎_elim this (λ b. earlier (one_passed i n b t)) (eq-or-lt_of_le (le_of_suc-le-suc l))
+  one_passed i (suc n) l t =
+      ⊎_elim this (λ b. earlier (one_passed i n b t)) (eq-or-lt_of_le (le_of_suc-le-suc l))
     where
       this : i ≡ n → 1 ≤ passed n + cond (test n) 1 0
       this e = let s : test n ≡ true = ap test (sym e) ∙ t in rw s (omega arith)
@@ -118,10 +122,12 @@ module _ (test : ℕ → Bool) where
       go true q rest = absurd (omega (arith, q))
       go false q rest = omega (arith, rest (omega (arith, q)))
 
-  pub sum_only : (f : ℕ → ℕ) (i n : ℕ) → i < n → test i ≡ true → passed n ≡ 1 → sum (λ j. when (test j) (f j)) n ≡ f i
+  pub sum_only : (f : ℕ → ℕ) (i n : ℕ) → i < n → test i ≡ true → passed n ≡ 1
+      → sum (λ j. when (test j) (f j)) n ≡ f i
   unfolding sum when
   sum_only f i zero l t e = absurd (omega arith)
-  sum_only f i (suc n) l t e = ⊎_elim last (λ b. earlier (test n) e b (sum_only f i n b t)) (eq-or-lt_of_le (le_of_suc-le-suc l))
+  sum_only f i (suc n) l t e =
+      ⊎_elim last (λ b. earlier (test n) e b (sum_only f i n b t)) (eq-or-lt_of_le (le_of_suc-le-suc l))
     where
       last : i ≡ n → sum (λ j. when (test j) (f j)) n + cond (test n) (f n) 0 ≡ f i
       last q =
@@ -129,7 +135,8 @@ module _ (test : ℕ → Bool) where
           let none : passed n + 1 ≡ 1 = rw s at e in
           rw s (omega (arith, none_passed f n (omega (arith, none)), ap f q))
 
-      earlier : (c : Bool) → passed n + cond c 1 0 ≡ 1 → i < n → (passed n ≡ 1 → sum (λ j. when (test j) (f j)) n ≡ f i)
+      earlier : (c : Bool) → passed n + cond c 1 0 ≡ 1 → i < n
+          → (passed n ≡ 1 → sum (λ j. when (test j) (f j)) n ≡ f i)
           → sum (λ j. when (test j) (f j)) n + cond c (f n) 0 ≡ f i
       earlier true q b rest = absurd (omega (arith, q, one_passed i n b t))
       earlier false q b rest = omega (arith, rest (omega (arith, q)))
@@ -181,7 +188,8 @@ unfolding any
 any_step f i = rw add-one
 
 -- A loop that joins every test into one flag.
-pub any_fold : (f : ℕ → Bool) (i : ℕ) {found b : Bool} → found ≡ any f i → b ≡ f i → (found || b) ≡ any f (i + 1)
+pub any_fold : (f : ℕ → Bool) (i : ℕ) {found b : Bool} → found ≡ any f i → b ≡ f i
+    → (found || b) ≡ any f (i + 1)
 any_fold f i e q = rw (e, q) (sym (any_step f i))
 
 pub any_done : (f : ℕ → Bool) {i n : ℕ} {found : Bool} → i ≤ n → n ≤ i → found ≡ any f i → found ≡ any f n
@@ -223,7 +231,8 @@ or_swap false false x y = refl
 pub any_or : (f g : ℕ → Bool) (n : ℕ) → any (λ i. f i || g i) n ≡ (any f n || any g n)
 unfolding any
 any_or f g zero = refl
-any_or f g (suc n) = ap (λ (b : Bool). b || (f n || g n)) (any_or f g n) ∙ or_swap (any f n) (any g n) (f n) (g n)
+any_or f g (suc n) =
+    ap (λ (b : Bool). b || (f n || g n)) (any_or f g n) ∙ or_swap (any f n) (any g n) (f n) (g n)
 
 -- A test of k places in one is one over k times as many places.
 pub any_groups : (f : ℕ → Bool) (k n : ℕ) → any (λ i. any (λ j. f (k * i + j)) k) n ≡ any f (k * n)

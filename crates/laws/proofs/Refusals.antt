@@ -19,8 +19,44 @@ use Rattle.rules.specs.Month.{Producer, Month, hours}
 use Rattle.rules.specs.declared.Layout.{Layout}
 use Rattle.rules.specs.Sheet.{header_of, layout_of, month_of, hours_width, hours_at}
 use Rattle.rules.specs.Result.{result_length}
-use Rattle.rules.specs.Refusals.{one_of, bad_version, bad_month, too_many, bad_share, too_high, high_hour, high_producer, high_row, high_consumer, bad_reference, too_dear, bad_factor, bad_days, Test, front_tests, header_tests, form_tests, room_tests, figure_tests, sheet_tests, tests_for, tests, applies, first_of, refusal}
-use Rattle.rules.specs.Limits.{HeaderLimits, ProducerLimits, RowLimits, ConsumerLimits, MonthLimits, FormLimits, LimitsFor, SheetLimits}
+use Rattle.rules.specs.Refusals.{
+  one_of,
+  bad_version,
+  bad_month,
+  too_many,
+  bad_share,
+  too_high,
+  high_hour,
+  high_producer,
+  high_row,
+  high_consumer,
+  bad_reference,
+  too_dear,
+  bad_factor,
+  bad_days,
+  Test,
+  front_tests,
+  header_tests,
+  form_tests,
+  room_tests,
+  figure_tests,
+  sheet_tests,
+  tests_for,
+  tests,
+  applies,
+  first_of,
+  refusal,
+}
+use Rattle.rules.specs.Limits.{
+  HeaderLimits,
+  ProducerLimits,
+  RowLimits,
+  ConsumerLimits,
+  MonthLimits,
+  FormLimits,
+  LimitsFor,
+  SheetLimits,
+}
 use Rattle.rules.specs.Outcome.{Accepted, hours_stretch}
 use Rattle.laws.proofs.Sheet.{hours_inside}
 use Rattle.laws.proofs.Range.{or_left, or_right, any_clear, any_none}
@@ -39,13 +75,15 @@ none_applies (x ∷ xs) t e n = go x.applies refl e (none_applies xs (and_r (leb
     other true q = refl
     other false q = q
 
-    go : (b : Bool) → x.applies ≡ b → cond b x.number (first_of xs) ≡ 0 → (first_of xs ≡ 0 → (k : ℕ) → applies k xs ≡ false)
+    go : (b : Bool) → x.applies ≡ b → cond b x.number (first_of xs) ≡ 0
+        → (first_of xs ≡ 0 → (k : ℕ) → applies k xs ≡ false)
         → cond (eqb x.number n) x.applies (applies n xs) ≡ false
     go true q f rest = absurd (omega (arith, leb→le 1 x.number (and_l (leb 1 x.number) (numbered xs) t)))
     go false q f rest = rw q (other (eqb x.number n) (rest f n))
 
 -- A list tried after another: its first number counts where the other has none.
-pub first_append : (xs ys : List Test) → T (numbered xs) → first_of (xs ++ ys) ≡ cond (eqb (first_of xs) 0) (first_of ys) (first_of xs)
+pub first_append : (xs ys : List Test) → T (numbered xs)
+    → first_of (xs ++ ys) ≡ cond (eqb (first_of xs) 0) (first_of ys) (first_of xs)
 unfolding first_of
 first_append [] ys t = refl
 first_append (x ∷ xs) ys t = go x.applies (first_append xs ys (and_r (leb 1 x.number) (numbered xs) t))
@@ -60,20 +98,24 @@ first_append (x ∷ xs) ys t = go x.applies (first_append xs ys (and_r (leb 1 x.
     go false e = e
 
 -- So where the first list has a number it stands, and where it has none the second list's does.
-pub first_stands : (xs ys : List Test) → T (numbered xs) → (first_of xs ≡ 0 → ⊥) → first_of xs ≡ first_of (xs ++ ys)
+pub first_stands : (xs ys : List Test) → T (numbered xs) → (first_of xs ≡ 0 → ⊥)
+    → first_of xs ≡ first_of (xs ++ ys)
 first_stands xs ys t n = sym (first_append xs ys t ∙ rw (ne_eqb (first_of xs) 0 n))
 
 pub first_next : (xs ys : List Test) → T (numbered xs) → first_of xs ≡ 0 → first_of ys ≡ first_of (xs ++ ys)
 first_next xs ys t e = sym (first_append xs ys t ∙ rw e)
 
-pub first_both : (xs ys : List Test) → T (numbered xs) → first_of (xs ++ ys) ≡ 0 → (first_of xs ≡ 0) × (first_of ys ≡ 0)
+pub first_both : (xs ys : List Test) → T (numbered xs) → first_of (xs ++ ys) ≡ 0
+    → (first_of xs ≡ 0) × (first_of ys ≡ 0)
 first_both xs ys t e = go (eqb (first_of xs) 0) refl (sym (first_append xs ys t) ∙ e)
   where
-    go : (b : Bool) → eqb (first_of xs) 0 ≡ b → cond b (first_of ys) (first_of xs) ≡ 0 → (first_of xs ≡ 0) × (first_of ys ≡ 0)
+    go : (b : Bool) → eqb (first_of xs) 0 ≡ b → cond b (first_of ys) (first_of xs) ≡ 0
+        → (first_of xs ≡ 0) × (first_of ys ≡ 0)
     go true q f = (eqb-true _ _ q, f)
     go false q f = absurd (eqb-false _ _ q f)
 
-pub both_first : (xs ys : List Test) → T (numbered xs) → first_of xs ≡ 0 → first_of ys ≡ 0 → first_of (xs ++ ys) ≡ 0
+pub both_first : (xs ys : List Test) → T (numbered xs) → first_of xs ≡ 0 → first_of ys ≡ 0
+    → first_of (xs ++ ys) ≡ 0
 both_first xs ys t e f = first_append xs ys t ∙ rw (e, f)
 
 -- Where each test of a list fails, no number comes out.
@@ -152,7 +194,10 @@ module _ (h : Header) where
   month_clear l =
       all_fail _ (
         le-ltb _ _ l.days_from,
-        (le-ltb _ _ l.days_to, (le-ltb _ _ l.weekday_from, (le-ltb _ _ l.weekday_to, (rw (div-eq_of_lt l.holidays), tt)))),
+        (
+          le-ltb _ _ l.days_to,
+          (le-ltb _ _ l.weekday_from, (le-ltb _ _ l.weekday_to, (rw (div-eq_of_lt l.holidays), tt))),
+        ),
       )
 
   counts_clear : HeaderLimits h → too_many h ≡ false
@@ -220,7 +265,8 @@ module _ (h : Header) where
       hour : (i : ℕ) → i < hours h → high_hour p i ≡ false
       hour i q = unfold high_hour in all_fail _ (clear_high _ (l.working i q), (clear_high _ (l.possible i q), (clear_high _ (l.outside_use i q), tt)))
 
-  row_limits : (r : Row) → high_row r ≡ false → bad_reference h r ≡ false → too_dear r.price ≡ false → bad_days h r ≡ false → RowLimits h r
+  row_limits : (r : Row) → high_row r ≡ false → bad_reference h r ≡ false → too_dear r.price ≡ false
+      → bad_days h r ≡ false → RowLimits h r
   unfolding high_row bad_reference bad_days
   row_limits r e9 e10 e11 e18 =
       let b = none_of _ e10 in
@@ -251,7 +297,8 @@ module _ (h : Header) where
   unfolding bad_days
   days_clear r l = all_fail _ (le-ltb _ _ l.first_from, (le-ltb _ _ l.last_from, (le-ltb _ _ l.last_to, tt)))
 
-  pub consumer_limits : (c : Consumer) → high_consumer c ≡ false → too_dear c.price ≡ false → bad_factor h c ≡ false → ConsumerLimits h c
+  pub consumer_limits : (c : Consumer) → high_consumer c ≡ false → too_dear c.price ≡ false
+      → bad_factor h c ≡ false → ConsumerLimits h c
   unfolding high_consumer bad_factor
   consumer_limits c e9 e11 e12 =
       let a = none_of _ e9 in
@@ -348,14 +395,22 @@ module _ (m : Month) where
         (
           all_fail _ (
             any_none _ _ (λ p l. producer_clear _ _ (w.producer p l)),
-            (any_none _ _ (λ j l. row_clear m.header _ (w.row j l)), (any_none _ _ (λ k l. consumer_clear m.header _ (w.consumer k l)), tt)),
+            (
+              any_none _ _ (λ j l. row_clear m.header _ (w.row j l)),
+              (any_none _ _ (λ k l. consumer_clear m.header _ (w.consumer k l)), tt),
+            ),
           ),
           (
             any_none _ _ (λ j l. reference_clear _ _ (w.row j l)),
             (
-              all_fail _
-                  (any_none _ _ (λ j l. clear_dear _ (w.row j l).price), (any_none _ _ (λ k l. clear_dear _ (w.consumer k l).price), tt)),
-              (any_none _ _ (λ k l. factor_clear _ _ (w.consumer k l)), (any_none _ _ (λ j l. days_clear _ _ (w.row j l)), tt)),
+              all_fail _ (
+                any_none _ _ (λ j l. clear_dear _ (w.row j l).price),
+                (any_none _ _ (λ k l. clear_dear _ (w.consumer k l).price), tt),
+              ),
+              (
+                any_none _ _ (λ k l. factor_clear _ _ (w.consumer k l)),
+                (any_none _ _ (λ j l. days_clear _ _ (w.row j l)), tt),
+              ),
             ),
           ),
         ),
@@ -432,15 +487,18 @@ module _ (s : List ℕ) (p : ℕ) where
   unfolding hours_stretch
   stretch_there e l = rw (eq-eqb _ _ e, lt-ltb _ _ l)
 
-  pub stretch_ends : first_of (form_tests s) ≡ 0 → p < (header_of s).producers → hours_at (layout_of s) p + hours_width (header_of s) ≤ length s
+  pub stretch_ends : first_of (form_tests s) ≡ 0 → p < (header_of s).producers
+      → hours_at (layout_of s) p + hours_width (header_of s) ≤ length s
   stretch_ends e l =
       let f = form_limits s e in
       omega (arith, f.length_told, f.length_right, hours_inside (layout_of s) p l)
 
-  pub stretch_refused : (first_of (form_tests s) ≡ 0 → ⊥) → hours_stretch s p ≡ record { place = 0; bytes = 0 }
+  pub stretch_refused : (first_of (form_tests s) ≡ 0 → ⊥)
+      → hours_stretch s p ≡ record { place = 0; bytes = 0 }
   unfolding hours_stretch
   stretch_refused n = rw (ne_eqb _ _ n)
 
-  pub stretch_none : first_of (form_tests s) ≡ 0 → (header_of s).producers ≤ p → hours_stretch s p ≡ record { place = 0; bytes = 0 }
+  pub stretch_none : first_of (form_tests s) ≡ 0 → (header_of s).producers ≤ p
+      → hours_stretch s p ≡ record { place = 0; bytes = 0 }
   unfolding hours_stretch
   stretch_none e l = rw (eq-eqb _ _ e, le-ltb _ _ l)

@@ -1,4 +1,5 @@
--- The sheet's length, where a producer's hours stand in it, and records that are read alike from the same bytes. Assumes nothing.
+-- The sheet's length, where a producer's hours stand in it, and records that are read alike from the same
+-- bytes. Assumes nothing.
 use mathlib.Core.Path.{◌≡◌, refl, sym, ap, ◌∙◌}
 use mathlib.Core.Bool.{Bool, true, false, cond}
 use mathlib.Core.List.{List}
@@ -13,7 +14,27 @@ use Rattle.rules.specs.declared.Series.{Series}
 use Rattle.rules.specs.declared.HourSeries.{HourSeries}
 use Rattle.rules.specs.Month.{hours}
 use Rattle.rules.specs.Fields.{big_endian, bytes_from}
-use Rattle.rules.specs.Sheet.{header_of, stated_width, hours_width, states_days, by_column, triples, columns, hour_series, row_width, consumer_width, producer_at, hours_at, row_at, consumer_at, sheet_length, stated_of, day_at, row_of, consumer_of}
+use Rattle.rules.specs.Sheet.{
+  header_of,
+  stated_width,
+  hours_width,
+  states_days,
+  by_column,
+  triples,
+  columns,
+  hour_series,
+  row_width,
+  consumer_width,
+  producer_at,
+  hours_at,
+  row_at,
+  consumer_at,
+  sheet_length,
+  stated_of,
+  day_at,
+  row_of,
+  consumer_of,
+}
 use Rattle.laws.proofs.Arrays.{length-listed, get_or-listed}
 use Rattle.laws.proofs.Fields.{same_bytes, Holds}
 
@@ -64,7 +85,8 @@ series_span l = go (by_column l)
     go false = (omega arith, omega arith, omega arith)
 
 -- Each of them then ends within.
-pub span_ends : (h : Header) (x : Series) → Spans h x → (i : ℕ) → i < hours h → x.start + x.step * i + 4 ≤ hours_width h
+pub span_ends : (h : Header) (x : Series) → Spans h x → (i : ℕ) → i < hours h
+    → x.start + x.step * i + 4 ≤ hours_width h
 span_ends h x spans i b = omega (arith, spans, mul-le-mul_left x.step b)
 
 -- Number 6's length, in document 01's words.
@@ -79,7 +101,8 @@ unfolding consumer_at row_at
 rows_end l j b = omega (arith, mul-le-mul_left (row_width l) b)
 
 -- The hours of a producer below P end within the sheet.
-pub hours_inside : (l : Layout) (p : ℕ) → p < l.header.producers → hours_at l p + hours_width l.header ≤ sheet_length l
+pub hours_inside : (l : Layout) (p : ℕ) → p < l.header.producers
+    → hours_at l p + hours_width l.header ≤ sheet_length l
 unfolding sheet_length consumer_at row_at hours_at producer_at
 hours_inside l p b = omega (arith, mul-le-mul_right (42 + 288 * l.header.days) b)
 
@@ -88,7 +111,8 @@ pub row_inside : (l : Layout) (j : ℕ) → j < l.header.rows → row_at l j + r
 unfolding sheet_length consumer_at
 row_inside l j b = unfold consumer_at in omega (arith, rows_end l j b)
 
-pub consumer_inside : (l : Layout) (c : ℕ) → c < l.header.consumers → consumer_at l c + consumer_width l ≤ sheet_length l
+pub consumer_inside : (l : Layout) (c : ℕ) → c < l.header.consumers
+    → consumer_at l c + consumer_width l ≤ sheet_length l
 unfolding sheet_length consumer_at
 consumer_inside l c b = omega arith
 
@@ -100,7 +124,8 @@ producers_le p days hp hd = mul-le-mul {n₂ = 255} {m₂ = 73482} hp (omega ari
 abbrev pub SameFields : ℕ → List ℕ → ℕ → List ℕ → ℕ → Type 0
 SameFields n t to s from = (w k : ℕ) → k + w ≤ n → big_endian w t (to + k) ≡ big_endian w s (from + k)
 
-pub same_fields : (n : ℕ) (t : List ℕ) (to : ℕ) (s : List ℕ) (from : ℕ) → ((i : ℕ) → i < n → get_or t (to + i) 0 ≡ get_or s (from + i) 0) → SameFields n t to s from
+pub same_fields : (n : ℕ) (t : List ℕ) (to : ℕ) (s : List ℕ) (from : ℕ)
+    → ((i : ℕ) → i < n → get_or t (to + i) 0 ≡ get_or s (from + i) 0) → SameFields n t to s from
 same_fields n t to s from h w k b =
     same_bytes w t s (to + k) (from + k)
     (λ i l. ap (λ (x : ℕ). get_or t x 0) (add_assoc to k i) ∙ h (k + i) (omega arith) ∙ ap (λ (x : ℕ). get_or s x 0) (sym (add_assoc from k i)))
@@ -110,9 +135,11 @@ pub length-from : (s : List ℕ) (at n : ℕ) → length (bytes_from s at n) ≡
 unfolding bytes_from
 length-from s at n = length-listed _ n
 
-pub held_from : (n : ℕ) (t : List ℕ) (to : ℕ) (s : List ℕ) (from : ℕ) → Holds t to (bytes_from s from n) → SameFields n t to s from
+pub held_from : (n : ℕ) (t : List ℕ) (to : ℕ) (s : List ℕ) (from : ℕ) → Holds t to (bytes_from s from n)
+    → SameFields n t to s from
 unfolding bytes_from
-held_from n t to s from h = same_fields n t to s from (λ i l. h.byte i (rw length-listed l) ∙ get_or-listed 0 _ n i l)
+held_from n t to s from h =
+    same_fields n t to s from (λ i l. h.byte i (rw length-listed l) ∙ get_or-listed 0 _ n i l)
 
 -- So is the header, whose month and counts follow the version,
 pub header_same : (t s : List ℕ) → SameFields 9 t 5 s 5 → header_of t ≡ header_of s
@@ -128,7 +155,8 @@ header_same t s field =
 
 -- and every record.
 module _ (t : List ℕ) (to : ℕ) (s : List ℕ) (from : ℕ) where
-  pub front_same : {n : ℕ} (w : ℕ) → w ≤ n → SameFields n t to s from → big_endian w t to ≡ big_endian w s from
+  pub front_same : {n : ℕ} (w : ℕ) → w ≤ n → SameFields n t to s from
+      → big_endian w t to ≡ big_endian w s from
   front_same w b field = rw (add-zero to, add-zero from) at (field w 0 (omega arith))
 
   pub stated_same : SameFields stated_width t to s from → stated_of t to ≡ stated_of s from
@@ -154,7 +182,8 @@ module _ (t : List ℕ) (to : ℕ) (s : List ℕ) (from : ℕ) where
     unfolding day_at
     day_same k d q = go (states_days l) refl
       where
-        go : (b : Bool) → states_days l ≡ b → cond b (big_endian 1 t (to + k)) d ≡ cond b (big_endian 1 s (from + k)) d
+        go : (b : Bool) → states_days l ≡ b
+            → cond b (big_endian 1 t (to + k)) d ≡ cond b (big_endian 1 s (from + k)) d
         go true e = field 1 k (omega (arith, states_width l e))
         go false e = refl
 

@@ -1,4 +1,5 @@
--- Transfers: what a list keeps to that is not refused, and what its entries do to contract volumes. Assumes nothing.
+-- Transfers: what a list keeps to that is not refused, and what its entries do to contract volumes. Assumes
+-- nothing.
 use mathlib.Core.Path.{◌≡◌, refl, sym, ◌∙◌}
 use mathlib.Core.Bool.{Bool, true, false, cond}
 use mathlib.Core.List.{List}
@@ -14,9 +15,28 @@ use Rattle.rules.specs.Limits.{FormLimits, MonthLimits}
 use Rattle.rules.specs.Sheet.{header_of, month_of}
 use Rattle.rules.specs.Refusals.{sheet_tests, first_of, applies}
 use Rattle.rules.specs.TransferList.{entries, entry}
-use Rattle.rules.specs.Transfers.{bad_entry, moved, after_entries, overdrawn, overdrawn_at, contracts, list_tests, turn_tests, transfer_tests, transfer_refusal}
+use Rattle.rules.specs.Transfers.{
+  bad_entry,
+  moved,
+  after_entries,
+  overdrawn,
+  overdrawn_at,
+  contracts,
+  list_tests,
+  turn_tests,
+  transfer_tests,
+  transfer_refusal,
+}
 use Rattle.laws.proofs.Range.{any_clear, any_same, sum_one}
-use Rattle.laws.proofs.Refusals.{numbered, none_applies, first_both, none_of, high_clear, sheet_numbered, sheet_limits}
+use Rattle.laws.proofs.Refusals.{
+  numbered,
+  none_applies,
+  first_both,
+  none_of,
+  high_clear,
+  sheet_numbered,
+  sheet_limits,
+}
 
 -- An entry that 13 lets pass, among so many consumers.
 pub record Named (consumers : ℕ) (t : Transfer) : Type 0 where
@@ -28,10 +48,15 @@ entry_named : (consumers : ℕ) (t : Transfer) → bad_entry consumers t ≡ fal
 unfolding bad_entry
 entry_named consumers t e =
     let a = none_of _ e in
-    record { giver = leb-false _ _ a.1.1.0; taker = leb-false _ _ a.1.1.1.0; apart = eqb-false _ _ a.1.1.1.1.0 }
+    record {
+      giver = leb-false _ _ a.1.1.0;
+      taker = leb-false _ _ a.1.1.1.0;
+      apart = eqb-false _ _ a.1.1.1.1.0;
+    }
 
 -- An entry that can be met: the giver has the amount, and the taker has room for it.
-pub met : (v : ℕ → ℕ) (t : Transfer) → overdrawn v t ≡ false → (t.amount ≤ v t.giver) × (v t.taker + t.amount ≤ tenths_ceiling)
+pub met : (v : ℕ → ℕ) (t : Transfer) → overdrawn v t ≡ false
+    → (t.amount ≤ v t.giver) × (v t.taker + t.amount ≤ tenths_ceiling)
 unfolding overdrawn
 met v t e = let a = none_of _ e in (ltb-false _ _ a.0, high_clear _ a.1.0)
 
@@ -74,19 +99,27 @@ module _ (v : ℕ → ℕ) (n : ℕ) (t : Transfer) (k : Named n t) (fair : over
       let a = met v t fair in
       let lowered : sum (given v t) n + v t.giver ≡ sum v n + given v t t.giver = sum_one (given v t) v t.giver n k.giver (λ c b g. given_other v t c g) in
       let raised : sum (moved v t) n + given v t t.taker ≡ sum (given v t) n + moved v t t.taker = sum_one (moved v t) (given v t) t.taker n k.taker (λ c b o. moved_given v t c o) in
-      omega (arith, a.0, given-giver v t, given_other v t t.taker (λ e. k.apart (sym e)), taker_moved v t k.apart)
+      omega (
+        arith,
+        a.0,
+        given-giver v t,
+        given_other v t t.taker (λ e. k.apart (sym e)),
+        taker_moved v t k.apart,
+      )
 
   moved_within : ((c : ℕ) → c < n → v c ≤ tenths_ceiling) → (c : ℕ) → c < n → moved v t c ≤ tenths_ceiling
   unfolding moved
   moved_within w c l = go (eqb c t.giver) (eqb c t.taker) refl
     where
-      go : (a b : Bool) → eqb c t.taker ≡ b → cond a (v c - t.amount) (cond b (v c + t.amount) (v c)) ≤ tenths_ceiling
+      go : (a b : Bool) → eqb c t.taker ≡ b
+          → cond a (v c - t.amount) (cond b (v c + t.amount) (v c)) ≤ tenths_ceiling
       go true b e = omega (arith, w c l)
       go false true e = rw (eqb-true c t.taker e) (met v t fair).1
       go false false e = w c l
 
 -- One entry more.
-pub after_more : (v : ℕ → ℕ) (l : List ℕ) (i : ℕ) → after_entries v l (i + 1) ≡ moved (after_entries v l i) (entry l i)
+pub after_more : (v : ℕ → ℕ) (l : List ℕ) (i : ℕ)
+    → after_entries v l (i + 1) ≡ moved (after_entries v l i) (entry l i)
 unfolding after_entries
 after_more v l i = rw add-one
 
@@ -100,7 +133,8 @@ module _ (l : List ℕ) (count : ℕ) (names : AllNamed count l) where
     pub after_same : (i : ℕ) (c : ℕ) → c < count → after_entries v l i c ≡ after_entries w l i c
     unfolding after_entries
     after_same zero c b = same c b
-    after_same (suc i) c b = moved_same (after_entries v l i) (after_entries w l i) count (after_same i) (entry l i) c b
+    after_same (suc i) c b =
+        moved_same (after_entries v l i) (after_entries w l i) count (after_same i) (entry l i) c b
 
     pub turns_same : any (overdrawn_at v l) (entries l) ≡ any (overdrawn_at w l) (entries l)
     unfolding overdrawn_at
@@ -117,13 +151,15 @@ module _ (l : List ℕ) (count : ℕ) (names : AllNamed count l) where
     sum_after (suc i) b =
         sum_moved (after_entries v l i) count (entry l i) (names i (omega arith)) (turn i (omega arith)) ∙ sum_after i (omega arith)
 
-    pub after_within : ((c : ℕ) → c < count → v c ≤ tenths_ceiling) → (i : ℕ) → i ≤ n → (c : ℕ) → c < count → after_entries v l i c ≤ tenths_ceiling
+    pub after_within : ((c : ℕ) → c < count → v c ≤ tenths_ceiling) → (i : ℕ) → i ≤ n → (c : ℕ) → c < count
+        → after_entries v l i c ≤ tenths_ceiling
     unfolding after_entries
     after_within w zero b c q = w c q
     after_within w (suc i) b c q =
         moved_within (after_entries v l i) count (entry l i) (names i (omega arith)) (turn i (omega arith)) (after_within w i (omega arith)) c q
 
--- What a list keeps to that none of 13 to 15 refuses, for a sheet with so many consumers and these contract volumes.
+-- What a list keeps to that none of 13 to 15 refuses, for a sheet with so many consumers and these contract
+-- volumes.
 pub record ListLimits (consumers : ℕ) (v : ℕ → ℕ) (l : List ℕ) : Type 0 where
   pub names : AllNamed consumers l
   pub fair : (i : ℕ) → i < entries l → overdrawn_at v l i ≡ false
@@ -137,7 +173,8 @@ unfolding list_tests applies
 names_clear consumers l e i b =
     entry_named _ _ (any_clear _ _ (none_of _ (none_applies (list_tests consumers l) tt e 13)).1.0 i b)
 
-turns_clear : (v : ℕ → ℕ) (l : List ℕ) → first_of (turn_tests v l) ≡ 0 → (i : ℕ) → i < entries l → overdrawn_at v l i ≡ false
+turns_clear : (v : ℕ → ℕ) (l : List ℕ) → first_of (turn_tests v l) ≡ 0 → (i : ℕ) → i < entries l
+    → overdrawn_at v l i ≡ false
 unfolding turn_tests applies
 turns_clear v l e = any_clear _ _ (none_applies (turn_tests v l) tt e 15)
 
@@ -149,5 +186,8 @@ applied_limits s l e =
     let both = first_both (sheet_tests s) _ (sheet_numbered s) e in
     let rest = first_both (list_tests (header_of s).consumers l) (turn_tests (contracts (month_of s)) l) (list_numbered (header_of s).consumers l) both.1 in (
       sheet_limits s both.0,
-      record { names = names_clear (header_of s).consumers l rest.0; fair = turns_clear (contracts (month_of s)) l rest.1 },
+      record {
+        names = names_clear (header_of s).consumers l rest.0;
+        fair = turns_clear (contracts (month_of s)) l rest.1;
+      },
     )

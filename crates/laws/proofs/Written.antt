@@ -1,4 +1,5 @@
--- Bytes written at a place, and contract volumes written into a sheet: what is read there, and what is kept. Assumes nothing.
+-- Bytes written at a place, and contract volumes written into a sheet: what is read there, and what is kept.
+-- Assumes nothing.
 use mathlib.Core.Path.{◌≡◌, refl, sym, ap, ◌∙◌}
 use mathlib.Core.Bool.{Bool, true, false}
 use mathlib.Core.List.{List, ◌++◌}
@@ -70,10 +71,12 @@ module _ (l : Layout) (v : ℕ → ℕ) (s : List ℕ) where
       let e : length (with_contracts l v n s) ≡ length s = length-contracts n (fewer n r) in
       length-over_at (contract_at l n) (bytes_of 4 (v n)) (with_contracts l v n s) (rw length-bytes_of (omega (arith, r n (omega arith)))) ∙ e
 
-  fits : (n : ℕ) → Room (suc n) → contract_at l n + length (bytes_of 4 (v n)) ≤ length (with_contracts l v n s)
+  fits : (n : ℕ) → Room (suc n)
+      → contract_at l n + length (bytes_of 4 (v n)) ≤ length (with_contracts l v n s)
   fits n r = rw length-bytes_of (omega (arith, r n (omega arith), length-contracts n (fewer n r)))
 
-  pub contracts_keep : (n : ℕ) → Room n → (i : ℕ) → Outside l n i → get_or (with_contracts l v n s) i 0 ≡ get_or s i 0
+  pub contracts_keep : (n : ℕ) → Room n → (i : ℕ) → Outside l n i
+      → get_or (with_contracts l v n s) i 0 ≡ get_or s i 0
   unfolding with_contracts
   contracts_keep zero r i o = refl
   contracts_keep (suc n) r i o =
@@ -81,13 +84,15 @@ module _ (l : Layout) (v : ℕ → ℕ) (s : List ℕ) where
       ∙ contracts_keep n (fewer n r) i (λ c b. o c (omega arith))
 
   -- The last contract volume is read where it was written, and leaves the others.
-  own_read : (n : ℕ) → Room (suc n) → v n < 256 ^ 4 → big_endian 4 (with_contracts l v (suc n) s) (contract_at l n) ≡ v n
+  own_read : (n : ℕ) → Room (suc n) → v n < 256 ^ 4
+      → big_endian 4 (with_contracts l v (suc n) s) (contract_at l n) ≡ v n
   unfolding with_contracts
   own_read n r f =
       read_held 4 (over_at (contract_at l n) (bytes_of 4 (v n)) (with_contracts l v n s)) (contract_at l n) (v n) f
       (over_at_holds (contract_at l n) (bytes_of 4 (v n)) (with_contracts l v n s) (fits n r))
 
-  apart : (c n i : ℕ) → c < n → i < 4 → contract_at l n ≤ contract_at l c + i → contract_at l n + 4 ≤ contract_at l c + i
+  apart : (c n i : ℕ) → c < n → i < 4 → contract_at l n ≤ contract_at l c + i
+      → contract_at l n + 4 ≤ contract_at l c + i
   unfolding consumer_at
   apart c n i b d e = omega arith
 
@@ -98,7 +103,8 @@ module _ (l : Layout) (v : ℕ → ℕ) (s : List ℕ) where
       same_bytes 4 (over_at (contract_at l n) (bytes_of 4 (v n)) (with_contracts l v n s)) (with_contracts l v n s) (contract_at l c) (contract_at l c)
       (λ i d. over_at_keeps (contract_at l n) (bytes_of 4 (v n)) (with_contracts l v n s) (fits n r) (contract_at l c + i) (λ e. rw length-bytes_of (apart c n i b d e)))
 
-  pub contract_read : (n : ℕ) → Room n → (c : ℕ) → c < n → v c < 256 ^ 4 → big_endian 4 (with_contracts l v n s) (contract_at l c) ≡ v c
+  pub contract_read : (n : ℕ) → Room n → (c : ℕ) → c < n → v c < 256 ^ 4
+      → big_endian 4 (with_contracts l v n s) (contract_at l c) ≡ v c
   contract_read zero r c b f = absurd (omega arith)
   contract_read (suc n) r c b f =
       ⊎_elim
@@ -113,7 +119,8 @@ unfolding with_contracts
 contracts_more l v s n = rw add-one
 
 -- What is written goes by the first n volumes alone.
-pub contracts_same : (l : Layout) (v w : ℕ → ℕ) (s : List ℕ) (n : ℕ) → ((c : ℕ) → c < n → v c ≡ w c) → with_contracts l v n s ≡ with_contracts l w n s
+pub contracts_same : (l : Layout) (v w : ℕ → ℕ) (s : List ℕ) (n : ℕ) → ((c : ℕ) → c < n → v c ≡ w c)
+    → with_contracts l v n s ≡ with_contracts l w n s
 unfolding with_contracts
 contracts_same l v w s zero e = refl
 contracts_same l v w s (suc n) e = rw (e n (omega arith), contracts_same l v w s n (λ c b. e c (omega arith)))

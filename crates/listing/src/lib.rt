@@ -1,4 +1,5 @@
-// The listing: a settlement's figures as lines of text, read back from the result's bytes; and that under the text of 2015.
+// The listing: a settlement's figures as lines of text, read back from the result's bytes; and that under the
+// text of 2015.
 #![tactic(auto)]
 
 ghost use Rattle.std.specs.Prelude.{◌≡◌, ◌≤◌};
@@ -6,7 +7,7 @@ ghost use Rattle.rules.specs.Outcome.{outcome};
 ghost use Rattle.rules.specs.Said.{said};
 
 use fields::{byte, word};
-use rules::Answer;
+use rules::{Header, Refusal};
 use settlement::settle;
 use sheet::header;
 
@@ -44,12 +45,6 @@ fn print_row(rt: &impl Print, res: &[u8], j: u8) {
     let _ = println!(rt; "R{j} {after_cut} {actual} {payment}");
 }
 
-fn print_rows(rt: &impl Print, res: &[u8], rows: u8) {
-    for j in 0..rows {
-        print_row(rt, res, j);
-    }
-}
-
 // Consumer c: its number, credit, percent, n, actual volume, charge.
 fn print_consumer(rt: &impl Print, res: &[u8], rows: u8, c: u8) {
     let at = record_at(rows, c);
@@ -61,49 +56,37 @@ fn print_consumer(rt: &impl Print, res: &[u8], rows: u8, c: u8) {
     let _ = println!(rt; "C{c} {credit} {percent} {n} {actual} {charge}");
 }
 
-fn print_consumers(rt: &impl Print, res: &[u8], rows: u8, consumers: u8) {
-    for c in 0..consumers {
-        print_consumer(rt, res, rows, c);
-    }
-}
-
 // The totals: paid, charged.
-fn print_totals(rt: &impl Print, res: &[u8], rows: u8, consumers: u8) {
-    let at = record_at(rows, consumers);
+fn print_totals(rt: &impl Print, res: &[u8], h: Header) {
+    let at = record_at(h.rows, h.consumers);
     let paid = Money(long(res, at));
     let charged = Money(long(res, at + 8));
     let _ = println!(rt; "T {paid} {charged}");
 }
 
-// The figures of a sheet with so many rows and consumers.
-fn print_figures(rt: &impl Print, res: &[u8], rows: u8, consumers: u8) {
-    print_rows(rt, res, rows);
-    print_consumers(rt, res, rows, consumers);
-    print_totals(rt, res, rows, consumers);
-}
-
-// The number of a refusal.
-pub(crate) fn print_refusal(rt: &impl Print, number: u8) {
-    let _ = println!(rt; "N{number}");
-}
-
-// What was answered: the figures, or the number of the refusal.
-fn print_answer(rt: &impl Print, sheet: &[u8], res: &[u8], answer: Answer) {
-    match answer {
-        Answer::Refused(number) => print_refusal(rt, number),
-        Answer::Written(_) => {
-            let h = header(sheet);
-            print_figures(rt, res, h.rows, h.consumers);
-        }
+// The figures of a sheet's result.
+fn print_figures(rt: &impl Print, res: &[u8], h: Header) {
+    for j in 0..h.rows {
+        print_row(rt, res, j);
     }
+    for c in 0..h.consumers {
+        print_consumer(rt, res, h.rows, c);
+    }
+    print_totals(rt, res, h);
 }
 
-// Settles a sheet and prints its listing on standard output. The answer is the settlement's.
-pub fn list(rt: &impl Print, sheet: &[u8]) -> Answer
+// Settles a sheet and prints its listing on standard output: the figures, or the number of the refusal. The
+// answer is the settlement's.
+pub fn list(rt: &impl Print, sheet: &[u8]) -> Result<usize, Refusal>
     ensures { said result ≡ outcome sheet.now 1333 }
 {
     let mut result = [0u8; 1333];
     let answer = settle(sheet, &mut result);
-    print_answer(rt, sheet, &result, answer);
+    match answer {
+        Ok(_) => print_figures(rt, &result, header(sheet)),
+        Err(refusal) => {
+            let _ = println!(rt; "{refusal}");
+        }
+    }
     answer
 }

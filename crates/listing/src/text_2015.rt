@@ -4,9 +4,9 @@ ghost use Rattle.rules.specs.Outcome2015.{outcome_2015};
 ghost use Rattle.rules.specs.Said.{said};
 
 use crate::decimals::{Money, Tenths};
-use crate::{long, print_refusal};
+use crate::long;
 use fields::byte;
-use rules::Answer;
+use rules::Refusal;
 use sheet::header;
 use text2015::settle_2015;
 
@@ -25,23 +25,18 @@ fn print_consumers(rt: &impl Print, res: &[u8], consumers: u8) {
     }
 }
 
-// What was answered: the consumers' lines, or the number of the refusal.
-fn print_answer(rt: &impl Print, sheet: &[u8], res: &[u8], answer: Answer) {
-    match answer {
-        Answer::Refused(number) => print_refusal(rt, number),
-        Answer::Written(_) => {
-            let h = header(sheet);
-            print_consumers(rt, res, h.consumers);
-        }
-    }
-}
-
-// Settles a sheet's consumers under the text of 2015 and prints their listing on standard output. The answer is the settlement's.
-pub fn list_2015(rt: &impl Print, sheet: &[u8]) -> Answer
+// Settles a sheet's consumers under the text of 2015 and prints their listing on standard output: their
+// lines, or the number of the refusal. The answer is the settlement's.
+pub fn list_2015(rt: &impl Print, sheet: &[u8]) -> Result<usize, Refusal>
     ensures { said result ≡ outcome_2015 sheet.now 548 }
 {
     let mut result = [0u8; 548];
     let answer = settle_2015(sheet, &mut result);
-    print_answer(rt, sheet, &result, answer);
+    match answer {
+        Ok(_) => print_consumers(rt, &result, header(sheet).consumers),
+        Err(refusal) => {
+            let _ = println!(rt; "{refusal}");
+        }
+    }
     answer
 }

@@ -5,13 +5,28 @@ use reading::read_full;
 use std::fs;
 use std::rt::Runtime;
 
+const SHEETS: [&str; 12] = [
+    "month",
+    "inside_month",
+    "small_deductible",
+    "columns",
+    "zeros",
+    "largest",
+    "header",
+    "refused_1",
+    "refused_2",
+    "refused_9",
+    "refused_12",
+    "refused_18",
+];
+
 // The listing of the sheet in a file.
 fn list_file(rt: &impl Runtime, name: &str) {
     match fs::open(rt, name) {
         Ok(mut file) => {
             let mut sheet = [0u8; 65536];
             let length = read_full(&mut file, &mut sheet);
-            listing::list(rt, &sheet[..length]);
+            let _ = listing::list(rt, &sheet[..length]);
         }
         Err(error) => {
             let _ = eprintln!(rt; "{name}: {error}");
@@ -20,16 +35,7 @@ fn list_file(rt: &impl Runtime, name: &str) {
 }
 
 fn main(rt: HostRuntime) {
-    list_file(&rt, "month");
-    list_file(&rt, "inside_month");
-    list_file(&rt, "small_deductible");
-    list_file(&rt, "columns");
-    list_file(&rt, "zeros");
-    list_file(&rt, "largest");
-    list_file(&rt, "header");
-    list_file(&rt, "refused_1");
-    list_file(&rt, "refused_2");
-    list_file(&rt, "refused_9");
-    list_file(&rt, "refused_12");
-    list_file(&rt, "refused_18");
+    for name in SHEETS {
+        list_file(&rt, name);
+    }
 }

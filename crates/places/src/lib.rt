@@ -1,8 +1,11 @@
-// Where the records of a sheet stand, and how long the sheet and its result are. No other crate asks for the version.
+// Where the records of a sheet stand, and how long the sheet and its result are. No other crate asks for the
+// version.
 #![tactic(auto)]
 
 ghost use Rattle.std.specs.Prelude.{◌≡◌, ◌≤◌};
-ghost use Rattle.rules.specs.Sheet.{hours_width, producer_at, hours_at, by_column, triples, columns, hour_series, states_days, row_width, row_at, consumer_at, contract_at, peak_at, sheet_length};
+ghost use Rattle.rules.specs.Sheet.{hours_width, producer_at, hours_at, by_column, triples, columns};
+ghost use Rattle.rules.specs.Sheet.{hour_series, states_days, row_width, row_at, consumer_at, contract_at};
+ghost use Rattle.rules.specs.Sheet.{peak_at, sheet_length};
 ghost use Rattle.rules.specs.Result.{result_length};
 
 use rules::{Header, HourSeries, Layout, Series};
@@ -15,6 +18,7 @@ pub fn producer_at(layout: Layout, p: u8) -> usize
 }
 
 // Where producer p's hours begin.
+#[tactic(auto, unfolding(rules::specs::Sheet::hours_at))]
 pub fn hours_at(layout: Layout, p: u8) -> usize
     ensures { (result ≡ hours_at layout p) × (result ≤ 20000042) }
 {
@@ -29,6 +33,7 @@ pub fn hours_width(h: Header) -> usize
 }
 
 // Whether a producer's hours stand by column.
+#[tactic(auto, unfolding(rules::specs::Sheet::by_column))]
 fn by_column(layout: Layout) -> bool
     ensures { result ≡ by_column layout }
 {
@@ -65,6 +70,7 @@ fn columns(h: Header) -> HourSeries
 }
 
 // and under a layout.
+#[tactic(auto, unfolding(rules::specs::Sheet::hour_series))]
 pub fn hour_series(layout: Layout) -> HourSeries
     ensures { result ≡ hour_series layout }
 {
@@ -76,6 +82,7 @@ pub fn hour_series(layout: Layout) -> HourSeries
 }
 
 // Whether rows state the days that they cover.
+#[tactic(auto, unfolding(rules::specs::Sheet::states_days))]
 pub fn states_days(layout: Layout) -> bool
     ensures { result ≡ states_days layout }
 {
@@ -83,6 +90,7 @@ pub fn states_days(layout: Layout) -> bool
 }
 
 // How many bytes a row takes.
+#[tactic(auto, unfolding(rules::specs::Sheet::row_width))]
 pub fn row_width(layout: Layout) -> usize
     ensures { (result ≡ row_width layout) × (result ≤ 12) }
 {
@@ -97,6 +105,7 @@ pub fn row_at(layout: Layout, j: u8) -> usize
 }
 
 // Where consumer c begins.
+#[tactic(auto, unfolding(rules::specs::Sheet::consumer_at))]
 pub fn consumer_at(layout: Layout, c: u8) -> usize
     ensures { (result ≡ consumer_at layout c) × (result ≤ 20006885) }
 {
@@ -118,6 +127,7 @@ pub fn peak_at(layout: Layout, c: u8) -> usize
 }
 
 // The length that version, month and counts ask of the sheet.
+#[tactic(auto, unfolding(rules::specs::Sheet::sheet_length))]
 pub fn sheet_length(layout: Layout) -> usize
     ensures { result ≡ sheet_length layout }
 {
@@ -125,6 +135,7 @@ pub fn sheet_length(layout: Layout) -> usize
 }
 
 // The length of the result.
+#[tactic(auto, unfolding(rules::specs::Result::result_length))]
 pub fn result_length(h: Header) -> usize
     ensures { result ≡ result_length h }
 {

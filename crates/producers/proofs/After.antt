@@ -13,7 +13,8 @@ use Rattle.producers.specs.declared.cut.CutRows.{CutRows}
 use Rattle.producers.specs.After.{cut_row}
 use Rattle.producers.proofs.Cuts.{left_first}
 
--- When row j's turn comes: what is left to cut of producer p's rows, what its support rows before have after the cut, and that it fits.
+-- When row j's turn comes: what is left to cut of producer p's rows, what its support rows before have after
+-- the cut, and that it fits.
 pub record CutSoFar (m : Month) (p j : ℕ) (c : CutRows) : Type 0 where
   pub left : c.left.0 ≡ left_to_cut m p j
   pub support : c.support.0 ≡ sum (own_support m (after_cut m) p) j
@@ -21,7 +22,11 @@ pub record CutSoFar (m : Month) (p j : ℕ) (c : CutRows) : Type 0 where
 
 pub cut_none : (m : Month) (p : ℕ) (c : CutRows) → c.left.0 ≡ excess m p → c.support.0 ≡ 0 → CutSoFar m p 0 c
 cut_none m p c e none =
-    record { left = e ∙ sym (left_first m p); support = none ∙ sym (sum_none (own_support m (after_cut m) p)); few = omega (arith, none) }
+    record {
+      left = e ∙ sym (left_first m p);
+      support = none ∙ sym (sum_none (own_support m (after_cut m) p));
+      few = omega (arith, none);
+    }
 
 module _ (m : Month) (p j : ℕ) {r : Row} (is : r ≡ m.row j) {c : CutRows} (k : CutSoFar m p j c) where
   -- The row after the cut, by what is left to cut when its turn comes.

@@ -8,7 +8,9 @@ use std::fs;
 use std::io::Read;
 use std::rt::Files;
 
-// Reads until the buffer is full, the input ends or a read fails. The answer is how many bytes were read: they stand at the buffer's front.
+// Reads until the buffer is full, the input ends or a read fails. The answer is how many bytes were read:
+// they stand at the buffer's front. It stays a loop: std's read_exact tells no count where an input
+// ends early, and read_to_end needs a heap.
 pub fn read_full<R: Read>(input: &mut R, buf: &mut [u8]) -> usize
     ensures fits { result ≤ length buf.new }
     ensures front { Consumes (R.remaining input.old) (R.remaining input.new) (take result buf.new) }

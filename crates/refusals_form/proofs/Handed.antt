@@ -14,7 +14,9 @@ use Rattle.sheet.proofs.Whole.{stretch_whole}
 
 -- No stretch: nothing, from the sheet's start.
 pub no_stretch : (s : List ℕ) (p q : ℕ) → hours_stretch s p ≡ record { place = 0; bytes = 0 }
-    → ([] ≡ within (hours_stretch s p) s) × (q ≡ (hours_stretch s p).place + q) × (0 ≡ (hours_stretch s p).bytes)
+    → ([] ≡ within (hours_stretch s p) s)
+    × (q ≡ (hours_stretch s p).place + q)
+    × (0 ≡ (hours_stretch s p).bytes)
 unfolding within
 no_stretch s p q e = rw e (refl, omega arith, refl)
 
@@ -23,12 +25,15 @@ unfolding within
 length-within x s fits = simp (length-take, length-drop) (omega arith)
 
 -- The stretch of a producer below P, found through the header.
-module _ (s : List ℕ) (p : ℕ) (layout : Layout) (eh : layout ≡ layout_of s) (f : first_of (form_tests s) ≡ 0) (l : p < layout.header.producers) where
+module _ (s : List ℕ) (p : ℕ) (layout : Layout) (eh : layout ≡ layout_of s) (f : first_of (form_tests s) ≡ 0)
+    (l : p < layout.header.producers) where
   below : p < (header_of s).producers
   below = rw eh at l
 
   pub stretch_same : stretch_in layout (length s) p ≡ hours_stretch s p
-  stretch_same = rw eh (stretch_whole (layout_of s) s p (stretch_ends s p f below) ∙ sym (stretch_there s p f below))
+  stretch_same =
+      rw eh (stretch_whole (layout_of s) s p (stretch_ends s p f below) ∙ sym (stretch_there s p f below))
 
   pub stretch_length : length (within (hours_stretch s p) s) ≡ (hours_stretch s p).bytes
-  stretch_length = length-within (hours_stretch s p) s (rw (stretch_there s p f below) (stretch_ends s p f below))
+  stretch_length =
+      length-within (hours_stretch s p) s (rw (stretch_there s p f below) (stretch_ends s p f below))

@@ -1,82 +1,104 @@
-// Numbers 1 to 7: the sheet's form and the result buffer's room; and a producer's hours, which are handed back where 1 to 6 pass.
+// Numbers 1 to 7: the sheet's form and the result buffer's room. A sheet that passes 1 to 6 is handed on
+// whole; and a producer's hours are handed back where it does.
 #![tactic(auto)]
 
-ghost use Rattle.std.specs.Prelude.{◌≡◌, cond};
-ghost use Rattle.rules.specs.Refusals.{bad_version, bad_month, too_many, front_tests, header_tests, form_tests, room_tests, first_of};
+ghost use Rattle.std.specs.Prelude.{◌≡◌, length, IfOk, OnOk};
+ghost use Rattle.rules.specs.Sheet.{length_field, layout_of, sheet_length};
+ghost use Rattle.rules.specs.Refusals.{bad_version, bad_month, too_many, first_of};
+ghost use Rattle.rules.specs.Refusals.{front_tests, header_tests, form_tests, room_tests};
+ghost use Rattle.rules.specs.Said.{number_or_none};
 
 use calendar::holiday_past;
 use fields::{byte, word};
 use places::sheet_length;
-use rules::{Header, Layout};
-use sheet::layout;
+use rules::{Header, Layout, Refusal};
+use sheet::Sheet;
 
 mod stretch;
 
 pub use stretch::producer_hours;
 
-// The number where its test applies, otherwise what the tests after it say.
-pub fn first(number: u8, applies: bool, rest: u8) -> u8
-    ensures { result ≡ cond applies number rest }
-{
-    if applies { number } else { rest }
-}
-
 // 3: the version.
+#[tactic(auto, unfolding(rules::specs::Refusals::bad_version, rules::specs::Refusals::one_of, rules::specs::Sheet::version,))]
 fn bad_version(s: &[u8]) -> bool
     ensures { result ≡ bad_version s.now }
 {
     let version = byte(s, 4);
-    (version < 1) | (3 < version)
+    version < 1 || 3 < version
 }
 
 // 4: the month.
+#[tactic(auto, unfolding(rules::specs::Refusals::bad_month, rules::specs::Refusals::one_of))]
 fn bad_month(h: Header) -> bool
     ensures { result ≡ bad_month h }
 {
-    (h.days < 28) | ((31 < h.days) | ((h.weekday < 1) | ((7 < h.weekday) | holiday_past(h))))
+    h.days < 28 || 31 < h.days || h.weekday < 1 || 7 < h.weekday || holiday_past(h)
 }
 
 // 5: the counts.
+#[tactic(auto, unfolding(rules::specs::Refusals::too_many, rules::specs::Refusals::one_of))]
 fn too_many(h: Header) -> bool
     ensures { result ≡ too_many h }
 {
-    (6 < h.producers) | ((32 < h.rows) | (32 < h.consumers))
+    6 < h.producers || 32 < h.rows || 32 < h.consumers
 }
 
-// The first of the numbers 4 to 6 that applies under a layout, with a sheet of so many bytes; 0 where none does.
-pub fn header_refusal(layout: Layout, bytes: usize) -> u8
-    ensures { result ≡ first_of (header_tests layout bytes) }
-{
-    let six = first(6, bytes != sheet_length(layout), 0);
-    let five = first(5, too_many(layout.header), six);
-    first(4, bad_month(layout.header), five)
-}
-
-// The first of the numbers 1 to 3 that applies to a sheet, 0 where none does.
-pub fn front_refusal(s: &[u8]) -> u8
-    ensures { result ≡ first_of (front_tests s.now) }
+// 1 to 3: the front of a sheet.
+#[tactic(auto, unfolding(rules::specs::Refusals::front_tests, rules::specs::Refusals::first_of, rules::specs::Sheet::length_field,))]
+pub fn try_front(s: &[u8]) -> Result<(), Refusal>
+    ensures number { number_or_none result ≡ first_of (front_tests s.now) }
+    ensures told { OnOk result (length_field s.now ≡ length s.now) }
 {
     if s.len() < 14 {
-        return 1;
+        return Err(Refusal::NoHeader);
     }
-    let three = first(3, bad_version(s), 0);
-    first(2, word(s, 0) as usize != s.len(), three)
+    if word(s, 0) as usize != s.len() {
+        return Err(Refusal::WrongLength);
+    }
+    if bad_version(s) {
+        return Err(Refusal::UnknownVersion);
+    }
+    Ok(())
 }
 
-// The first of the numbers 1 to 6 that applies, 0 where none does.
-pub fn form_refusal(s: &[u8]) -> u8
-    ensures { result ≡ first_of (form_tests s.now) }
+// 4 to 6, under a layout, with a sheet of so many bytes.
+#[tactic(auto, unfolding(rules::specs::Refusals::header_tests, rules::specs::Refusals::first_of))]
+pub fn try_header(layout: Layout, bytes: usize) -> Result<(), Refusal>
+    ensures number { number_or_none result ≡ first_of (header_tests layout bytes) }
+    ensures whole { OnOk result (bytes ≡ sheet_length layout) }
 {
-    let front = front_refusal(s);
-    if front != 0 {
-        return front;
+    if bad_month(layout.header) {
+        return Err(Refusal::NoSuchMonth);
     }
-    header_refusal(layout(s), word(s, 0) as usize)
+    if too_many(layout.header) {
+        return Err(Refusal::TooManyRecords);
+    }
+    if bytes != sheet_length(layout) {
+        return Err(Refusal::UnexpectedLength);
+    }
+    Ok(())
 }
 
-// 7 where a result of so many bytes does not fit into a buffer of so many, otherwise 0.
-pub fn room_refusal(needed: usize, room: usize) -> u8
-    ensures { result ≡ first_of (room_tests needed room) }
+// 1 to 6: the sheet, where none of them applies.
+#[tactic(auto, using(crate::proofs::Refused::front_refuses, crate::proofs::Refused::header_finds))]
+pub fn parse(bytes: &[u8]) -> Result<Sheet<'_>, Refusal>
+    ensures number { number_or_none result ≡ first_of (form_tests bytes.now) }
+    ensures read { IfOk result (λ sheet. (sheet.bytes.now ≡ bytes.now)
+        × (sheet.layout ≡ layout_of bytes.now)) }
 {
-    first(7, room < needed, 0)
+    try_front(bytes)?;
+    let layout = sheet::layout(bytes);
+    try_header(layout, bytes.len())?;
+    Ok(Sheet { bytes, layout })
+}
+
+// 7: a result of so many bytes does not fit into a buffer of so many.
+#[tactic(auto, unfolding(rules::specs::Refusals::room_tests, rules::specs::Refusals::first_of))]
+pub fn try_room(needed: usize, room: usize) -> Result<(), Refusal>
+    ensures { number_or_none result ≡ first_of (room_tests needed room) }
+{
+    if room < needed {
+        return Err(Refusal::NoRoom);
+    }
+    Ok(())
 }

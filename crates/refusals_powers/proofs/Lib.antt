@@ -1,3 +1,2 @@
-pub mod Told
+pub mod Low
 pub mod Powers
-pub mod Fours

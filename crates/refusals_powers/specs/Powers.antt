@@ -1,5 +1,5 @@
 -- Numbers 9 and 17 of powers that stand one after the other, four bytes each.
-use Rattle.std.specs.Prelude.{ℕ, ◌+◌, ◌*◌, ◌/◌, Bool, List, length, leb}
+use Rattle.std.specs.Prelude.{ℕ, ◌+◌, ◌*◌, ◌/◌, Bool, List, length}
 use Rattle.rules.specs.Range.{any}
 use Rattle.rules.specs.Fields.{big_endian}
 use Rattle.rules.specs.Refusals.{too_high}
@@ -12,14 +12,6 @@ high_power s i = too_high (big_endian 4 s (4 * i))
 unfoldable pub high_powers : List ℕ → Bool
 high_powers s = any (high_power s) (length s / 4)
 
--- Some power of so many from a place on passes a test.
-abbrev pub some_from : (ℕ → Bool) → List ℕ → ℕ → ℕ → Bool
-some_from test s at count = any (λ i. test (big_endian 4 s (at + 4 * i))) count
-
--- Some of them is above the ceiling.
+-- Some power of so many from a place on is above the ceiling.
 abbrev pub high_from : List ℕ → ℕ → ℕ → Bool
-high_from = some_from too_high
-
--- Some of them is not below 65,536, so that it has a bit in its two front bytes.
-abbrev pub front_from : List ℕ → ℕ → ℕ → Bool
-front_from = some_from (leb 65536)
+high_from s at count = any (λ i. too_high (big_endian 4 s (at + 4 * i))) count

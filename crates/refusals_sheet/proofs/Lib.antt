@@ -1,2 +1,3 @@
 pub mod Hours
 pub mod Numbers
+pub mod Order

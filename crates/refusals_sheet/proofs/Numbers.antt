@@ -1,7 +1,8 @@
--- Which list of tests a month's number comes from, what the hours add to it, and what a month without one keeps to. Assumes nothing.
+-- Which list of tests a month's number comes from, what the hours add to it, and what a month without one
+-- keeps to. Assumes nothing.
 use mathlib.Core.Path.{◌≡◌, refl, sym, ◌∙◌}
 use mathlib.Core.Bool.{Bool, true, false, cond, ◌&&◌, ◌||◌, and-false, or-false, or_assoc, or_comm}
-use mathlib.Core.List.{List, [], ◌∷◌, ◌++◌, append_assoc}
+use mathlib.Core.List.{List, [], ◌∷◌, ◌++◌}
 use Prim.Native.Nat.{ℕ, ◌≤◌}
 use native.Mathlib.Nat.{le_of_eq}
 use native.Mathlib.Omega.{arith}
@@ -13,13 +14,17 @@ use Rattle.rules.specs.declared.Layout.{Layout}
 use Rattle.rules.specs.declared.Header.{Header}
 use Rattle.rules.specs.Range.{any}
 use Rattle.rules.specs.Month.{Producer, Month, hours}
-use Rattle.rules.specs.Sheet.{layout_of, sheet_length, month_under, month_of}
+use Rattle.rules.specs.Sheet.{sheet_length, month_under}
 use Rattle.rules.specs.Limits.{HeaderLimits, MonthLimits}
 use Rattle.rules.specs.Result.{result_length}
-use Rattle.rules.specs.Refusals.{one_of, high_hour, high_producer, some_producer, Test, header_tests, form_tests, room_tests, figure_tests, tests_for, first_of, applies}
+use Rattle.rules.specs.Refusals.{one_of, bad_share, high_hour, high_producer, high_row, high_consumer}
+use Rattle.rules.specs.Refusals.{bad_reference, too_dear, bad_factor, bad_days, some_producer, some_row}
+use Rattle.rules.specs.Refusals.{some_consumer, Test, header_tests, room_tests, figure_tests, first_of}
+use Rattle.rules.specs.Refusals.{applies}
 use Rattle.laws.proofs.Range.{any_or, any_same}
-use Rattle.laws.proofs.Refusals.{numbered, none_applies, first_stands, first_next, first_both, not_true, header_numbered, room_numbered, room_limit, header_limits, form_limits, month_limits}
-use Rattle.refusals_sheet.specs.Tests.{high_figures, producer_tests, row_tests, consumer_tests, record_tests}
+use Rattle.laws.proofs.Refusals.{none_applies, first_both, not_true, header_numbered, room_numbered}
+use Rattle.laws.proofs.Refusals.{room_limit, header_limits, month_limits}
+use Rattle.refusals_sheet.specs.Tests.{high_figures, record_tests}
 use Rattle.refusals_sheet.specs.Numbers.{month_number, record_number, high_hours, with_hours}
 use Rattle.refusals_sheet.proofs.Hours.{hours_high}
 
@@ -34,34 +39,9 @@ module _ (layout : Layout) (bytes : ℕ) where
     pub whole : sheet_length layout ≤ bytes
     whole = unfold header_tests applies in le_of_eq (sym (eqb-true _ _ (not_true _ (none_applies (header_tests layout bytes) (header_numbered layout bytes) none 6))))
 
--- A sheet to which none of 1 to 6 applies is whole.
-pub form_whole : (s : List ℕ) → first_of (form_tests s) ≡ 0 → sheet_length (layout_of s) ≤ length s
-form_whole s none = let l = form_limits s none in le_of_eq (sym l.length_right ∙ l.length_told)
-
--- The form's tests, then 7 for a result of so many bytes, then the last ones: the first number comes from the first of these that has one.
-module _ (form : List Test) (told : T (numbered form)) (needed room : ℕ) (last : List Test) {all : ℕ}
-    (is : all ≡ first_of (form ++ (room_tests needed room ++ last))) where
-  pub form_stands : (first_of form ≡ 0 → ⊥) → first_of form ≡ all
-  form_stands n = first_stands form _ told n ∙ sym is
-
-  module _ (none : first_of form ≡ 0) where
-    rest : first_of (room_tests needed room ++ last) ≡ all
-    rest = first_next form _ told none ∙ sym is
-
-    pub room_stands : (first_of (room_tests needed room) ≡ 0 → ⊥) → first_of (room_tests needed room) ≡ all
-    room_stands n = first_stands (room_tests needed room) last (room_numbered needed room) n ∙ rest
-
-    pub last_next : first_of (room_tests needed room) ≡ 0 → first_of last ≡ all
-    last_next n = first_next (room_tests needed room) last (room_numbered needed room) n ∙ rest
-
--- So it is with the numbers of a whole sheet, and with those of a month under a layout.
-pub sheet_is : (needed : ℕ) (s : List ℕ) (room : ℕ)
-    → first_of (tests_for needed s room) ≡ first_of (form_tests s ++ (room_tests needed room ++ figure_tests (month_of s)))
-unfolding tests_for
-sheet_is needed s room = simp append_assoc
-
 -- The hours change nothing where the number is neither 0 nor above 9,
-pub not_added : (number : ℕ) (high : Bool) → (eqb number 0 || ltb 9 number) ≡ false → number ≡ with_hours number high
+not_added : (number : ℕ) (high : Bool) → (eqb number 0 || ltb 9 number) ≡ false
+    → number ≡ with_hours number high
 unfolding with_hours
 not_added number high e = rw (e, and-false)
 
@@ -76,11 +56,13 @@ abbrev early : List Test → Bool
 early [] = true
 early (t ∷ ts) = (leb 1 t.number && leb t.number 9) && early ts
 
-before_hours : (xs ys zs : List Test) (high : Bool) → T (early xs) → (first_of xs ≡ 0 → first_of ys ≡ with_hours (first_of zs) high)
+before_hours : (xs ys zs : List Test) (high : Bool) → T (early xs)
+    → (first_of xs ≡ 0 → first_of ys ≡ with_hours (first_of zs) high)
     → first_of (xs ++ ys) ≡ with_hours (first_of (xs ++ zs)) high
 unfolding first_of
 before_hours [] ys zs high e h = h refl
-before_hours (x ∷ xs) ys zs high e h = go x.applies (λ k. before_hours xs ys zs high (and_r (leb 1 x.number && leb x.number 9) (early xs) e) k) h
+before_hours (x ∷ xs) ys zs high e h =
+    go x.applies (λ k. before_hours xs ys zs high (and_r (leb 1 x.number && leb x.number 9) (early xs) e) k) h
   where
     go : (b : Bool) → ((first_of xs ≡ 0 → first_of ys ≡ with_hours (first_of zs) high) → first_of (xs ++ ys) ≡ with_hours (first_of (xs ++ zs)) high)
         → (cond b x.number (first_of xs) ≡ 0 → first_of ys ≡ with_hours (first_of zs) high)
@@ -89,7 +71,8 @@ before_hours (x ∷ xs) ys zs high e h = go x.applies (λ k. before_hours xs ys 
     go false later k = later k
 
 -- Where it is 0 or above 9, a high power is 9.
-pub nine : (a b : Bool) (number : ℕ) → (eqb number 0 || ltb 9 number) ≡ true → cond (a || b) 9 number ≡ with_hours (cond a 9 number) b
+nine : (a b : Bool) (number : ℕ) → (eqb number 0 || ltb 9 number) ≡ true
+    → cond (a || b) 9 number ≡ with_hours (cond a 9 number) b
 unfolding with_hours
 nine true true number e = refl
 nine true false number e = refl
@@ -119,7 +102,8 @@ eight false figures in_hours others a b c d =
     rw (or_last figures in_hours others) (nine (figures || others) in_hours (left a b c d) (above a b c d))
 
 -- 9, in a producer's stated figures or in its hours; and in those of some producer.
-in_producer : (h : Header) (p : Producer) → high_producer h p ≡ (high_figures p || any (high_hour p) (hours h))
+in_producer : (h : Header) (p : Producer)
+    → high_producer h p ≡ (high_figures p || any (high_hour p) (hours h))
 unfolding high_producer high_figures one_of
 in_producer h p = simp (or-false, or_assoc)
 
@@ -134,11 +118,13 @@ module _ (m : Month) where
   figures_with : first_of (figure_tests m) ≡ with_hours (first_of (record_tests m)) in_hours
   unfolding first_of figure_tests record_tests one_of
   figures_with =
-      let p = producer_tests m in
-      let r = row_tests m in
-      let c = consumer_tests m in
       rw in_some
-      (eight p.share p.high in_hours (r.high || (c.high || false)) r.reference (r.dear || (c.dear || false)) c.factor r.days)
+      (eight (some_producer m (bad_share m.header)) (some_producer m high_figures) in_hours
+      (some_row m high_row || (some_consumer m high_consumer || false))
+      (some_row m (bad_reference m.header))
+      (some_row m (λ r. too_dear r.price) || (some_consumer m (λ c. too_dear c.price) || false))
+      (some_consumer m (bad_factor m.header))
+      (some_row m (bad_days m.header)))
 
 -- The same of a whole sheet, whose hours are read as stretches.
 pub figures_are : (layout : Layout) (s : List ℕ) → sheet_length layout ≤ length s
@@ -146,13 +132,9 @@ pub figures_are : (layout : Layout) (s : List ℕ) → sheet_length layout ≤ l
 figures_are layout s fits = rw (hours_high layout s fits) (figures_with (month_under layout s))
 
 module _ (layout : Layout) (s : List ℕ) (room : ℕ) where
-  pub record_is : record_number layout s room
-      ≡ first_of (header_tests layout (length s) ++ (room_tests (result_length layout.header) room ++ record_tests (month_under layout s)))
-  unfolding record_number
-  record_is = refl
-
   -- A month's number is that of its records, with the hours.
-  pub month_with_hours : month_number layout s room ≡ with_hours (record_number layout s room) (high_hours layout s layout.header.producers)
+  pub month_with_hours : month_number layout s room
+      ≡ with_hours (record_number layout s room) (high_hours layout s layout.header.producers)
   unfolding month_number record_number header_tests room_tests
   month_with_hours =
       before_hours (header_tests layout (length s)) _ _ _ tt
@@ -164,8 +146,10 @@ module _ (layout : Layout) (s : List ℕ) (room : ℕ) where
   unfolding record_number
   record_kept none =
       let both = first_both (header_tests layout (length s)) _ (header_numbered layout (length s)) none in
-      let rest = first_both (room_tests (result_length layout.header) room) _ (room_numbered (result_length layout.header) room) both.1 in
-      ((within layout (length s) both.0, whole layout (length s) both.0), room_limit (result_length layout.header) room rest.0)
+      let rest = first_both (room_tests (result_length layout.header) room) _ (room_numbered (result_length layout.header) room) both.1 in (
+        (within layout (length s) both.0, whole layout (length s) both.0),
+        room_limit (result_length layout.header) room rest.0,
+      )
 
   -- Where none from 4 on does.
   pub month_kept : month_number layout s room ≡ 0

@@ -22,6 +22,7 @@ record_number layout s room = first_of (header_tests layout (length s) ++ (room_
 unfoldable pub high_hours : Layout → List ℕ → ℕ → Bool
 high_hours layout s n = any (λ p. high_powers (within (stretch_in layout (length s) p) s)) n
 
--- A number that was found without the hours, once these are known: a high power in them is 9, which stands before any number above it.
+-- A number that was found without the hours, once these are known: a high power in them is 9, which stands
+-- before any number above it.
 unfoldable pub with_hours : ℕ → Bool → ℕ
 with_hours number high = cond (high && (eqb number 0 || ltb 9 number)) 9 number

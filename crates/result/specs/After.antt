@@ -8,4 +8,5 @@ use Rattle.refusals_sheet.specs.Numbers.{month_number}
 
 -- The result over the buffer's front where no number applies, otherwise the buffer as it was.
 unfoldable pub month_after : Layout → List ℕ → List ℕ → List ℕ
-month_after layout s out = cond (eqb (month_number layout s (length out)) 0) (over (result_of (month_under layout s)) out) out
+month_after layout s out =
+    cond (eqb (month_number layout s (length out)) 0) (over (result_of (month_under layout s)) out) out

@@ -1,16 +1,29 @@
--- T and S after the cut, and the one fraction of a single row: figures of our own. Products are in millionths of a megawatt. [Requests, 8]
+-- T and S after the cut, and the one fraction of a single row: figures of our own. Products are in millionths
+-- of a megawatt. [Requests, 8]
 use Rattle.std.specs.Prelude.{ℕ, List, [], ◌∷◌, ◌++◌, ◌≡◌, refl}
 use Rattle.rules.specs.Month.{Row, Month}
 use Rattle.rules.specs.Cut.{after_cut, row_count}
 use Rattle.rules.specs.Coefficients.{support_after, capacity_after}
 use Rattle.rules.specs.Rows.{begun, actual, payment}
 use Rattle.rules.specs.Consumers.{credit}
-use Rattle.rules.specs.Samples.{producer, row, consumer, month, every, first_hours, k1, k4, Figure, figure, wrong}
+use Rattle.rules.specs.Samples.{
+  producer,
+  row,
+  consumer,
+  month,
+  every,
+  first_hours,
+  k1,
+  k4,
+  Figure,
+  figure,
+  wrong,
+}
 use Rattle.rules.specs.CheckedMonths.{producer_month}
 use Rattle.rules.specs.Open.{settlement}
 
--- A month of one day, a Monday, with one producer and these rows: attested and deductible capacity; working and possible power and outside
--- use, each alike in every hour.
+-- A month of one day, a Monday, with one producer and these rows: attested and deductible capacity; working
+-- and possible power and outside use, each alike in every hour.
 unfoldable pub day_month : ℕ → ℕ → ℕ → ℕ → ℕ → List (ℕ → Row) → Month
 day_month attested deductible working possible outside rows =
     month 1 1 0
@@ -35,20 +48,20 @@ begins m volume = begun m 0 volume
 
 unfoldable pub single_row_figures : List Figure
 single_row_figures =
-    -- document 01's producer with attested 105.0: the row is cut to 95.0, T is 95.0 and S 105.0; 95 × 99 / 105 = 89.571429, and × 0.9 = 80.614286.
-    -- With attested 110.0, 100 × 99 / 110 = 90, and × 0.9 = 81.0
+    -- document 01's producer with attested 105.0: the row is cut to 95.0, T is 95.0 and S 105.0; 95 × 99 /
+    -- 105 = 89.571429, and × 0.9 = 80.614286. With attested 110.0, 100 × 99 / 110 = 90, and × 0.9 = 81.0
     figure (support_after (producer_month 1050 100) 0) 950
     ∷ figure (capacity_after (producer_month 1050 100) 0) 1050
     ∷ figure (begins (producer_month 1050 100) 950) 89571429
     ∷ figure (actual (producer_month 1050 100) 0) 806
     ∷ figure (begins (producer_month 1100 100) 1000) 90000000
-    -- a support row of 2.3: (2.3 - 0.2) × 5 / 6 = 1.75, half upward 1.8. With k1 rounded first, 2.3 × 0.913043 × 5 / 6 = 1.749999; with k4,
-    -- 2.1 × 0.833333 = 1.749999; with both, 1.749998
+    -- a support row of 2.3: (2.3 - 0.2) × 5 / 6 = 1.75, half upward 1.8. With k1 rounded first, 2.3 ×
+    -- 0.913043 × 5 / 6 = 1.749999; with k4, 2.1 × 0.833333 = 1.749999; with both, 1.749998
     ∷ figure (begins (used_month (support_row 23 ∷ [])) 23) 1750000
     ∷ figure (actual (used_month (support_row 23 ∷ [])) 0) 18
     ∷ figure (payment (used_month (support_row 23 ∷ [])) 0) 180
-    -- a bilateral row has T 0: n × D of 0.2 leaves nothing of it; without n × D 4.9 × 9 / 14 = 3.15, half upward, and that is the credit. With
-    -- k4 rounded first, 4.9 × 0.642857 = 3.149999
+    -- a bilateral row has T 0: n × D of 0.2 leaves nothing of it; without n × D 4.9 × 9 / 14 = 3.15, half
+    -- upward, and that is the credit. With k4 rounded first, 4.9 × 0.642857 = 3.149999
     ∷ figure (k1 (used_month (bilateral_row 23 ∷ []))) 0
     ∷ figure (actual (used_month (bilateral_row 23 ∷ [])) 0) 0
     ∷ figure (actual (day_month 100000 0 9 14 0 (bilateral_row 49 ∷ [])) 0) 32
@@ -56,11 +69,13 @@ single_row_figures =
     -- n × D at the volume and above it: 0.2 of 0.2 and of 0.1
     ∷ figure (actual (used_month (support_row 2 ∷ [])) 0) 0
     ∷ figure (actual (used_month (support_row 1 ∷ [])) 0) 0
-    -- T after the cut: a row of 10.0 cut to 5.0, n × D 1.0 of outside use 0.5, and k4 1: 5 - 1 = 4. With T before the cut 5 × (1 - 1 / 10) = 4.5
+    -- T after the cut: a row of 10.0 cut to 5.0, n × D 1.0 of outside use 0.5, and k4 1: 5 - 1 = 4. With T
+    -- before the cut 5 × (1 - 1 / 10) = 4.5
     ∷ figure (actual (day_month 50 0 0 0 5 (support_row 100 ∷ [])) 0) 40
     -- n × D above the volume after the cut and not above that before it: 10.0 cut to 0.9
     ∷ figure (actual (day_month 9 0 0 0 5 (support_row 100 ∷ [])) 0) 0
-    -- S after the cut: a row of 10.0 cut to 5.0, possible power 10.0, working 4.0: m is 5.0, 5 × 4 / 5 = 4. With S before the cut 5 × 4 / 10 = 2
+    -- S after the cut: a row of 10.0 cut to 5.0, possible power 10.0, working 4.0: m is 5.0, 5 × 4 / 5 = 4.
+    -- With S before the cut 5 × 4 / 10 = 2
     ∷ figure (k4 (day_month 50 0 40 100 0 (support_row 100 ∷ []))) 800000
     ∷ figure (actual (day_month 50 0 40 100 0 (support_row 100 ∷ [])) 0) 40
     -- a row cut to 0: deductible 10.0 is S, and k4 9 / 10
@@ -82,8 +97,8 @@ single_row_figures =
     ∷ figure (begins (day_month 100000 0 1 2 1 (support_row 3 ∷ [])) 3) 50000
     ∷ []
 
--- A single support row of 0.1, with hours of 24 without an upward bid and without a plan, given coefficients and working power. Possible power
--- and deductible capacity are 2,500.0, and so is m.
+-- A single support row of 0.1, with hours of 24 without an upward bid and without a plan, given coefficients
+-- and working power. Possible power and deductible capacity are 2,500.0, and so is m.
 unfoldable pub short_month : ℕ → ℕ → List ℕ → (ℕ → ℕ) → Month
 short_month up plan given working =
     month 1 1 0
@@ -93,8 +108,9 @@ short_month up plan given working =
 
 unfoldable pub order_figures : List Figure
 order_figures =
-    -- the fraction is rounded before k2: working power 0.9 less in one hour of 24 makes k4 1 - 0.9 / 60,000 = 0.999985. 0.1 × 0.999985 =
-    -- 0.0999985, rounded 0.099999; × 0.5 = 0.0499995, rounded 0.050000; so 0.1. With k4 after k2: 0.05 × 0.999985 = 0.04999925, so 0
+    -- the fraction is rounded before k2: working power 0.9 less in one hour of 24 makes k4 1 - 0.9 / 60,000 =
+    -- 0.999985. 0.1 × 0.999985 = 0.0999985, rounded 0.099999; × 0.5 = 0.0499995, rounded 0.050000; so 0.1.
+    -- With k4 after k2: 0.05 × 0.999985 = 0.04999925, so 0
     figure (actual (short_month 12 0 [] (first_hours 1 24991 (every 25000))) 0) 1
     -- k2 before k3: 0.05 × 0.999985, so 0; k3 before k5: 0.099999 × 0.5, so 0.1
     ∷ figure (actual (short_month 12 0 (999985 ∷ []) (every 25000)) 0) 0
@@ -130,7 +146,8 @@ more_row_figures =
     18
     -- all is cut of two rows, and S is 0: k4 1
     ∷ figure (k4 (day_month 0 0 90 110 0 (support_row 500 ∷ bilateral_row 500 ∷ []))) 1000000
-    -- all support is cut, and T is 0: n × D of 0.2 leaves nothing of the bilateral row. With T before the cut k1 would be 0.98
+    -- all support is cut, and T is 0: n × D of 0.2 leaves nothing of the bilateral row. With T before the cut
+    -- k1 would be 0.98
     ∷ figure (k1 (day_month 100 0 0 0 1 (support_row 100 ∷ bilateral_row 100 ∷ []))) 0
     ∷ figure (actual (day_month 100 0 0 0 1 (support_row 100 ∷ bilateral_row 100 ∷ [])) 1) 0
     ∷ []

@@ -1,5 +1,5 @@
--- Industrial complexes: a consumer's peak, taken by averaging from the complex's record and written into a sheet. [Requests, 3, throughout;
--- source document 002, p. 2; a number stands before each of its tests]
+-- Industrial complexes: a consumer's peak, taken by averaging from the complex's record and written into a
+-- sheet. [Requests, 3, throughout; source document 002, p. 2; a number stands before each of its tests]
 use Rattle.std.specs.Prelude.{ℕ, ◌-◌, Bool, not, cond, List, [], ◌∷◌, ◌++◌, length, leb, ltb, eqb}
 use Rattle.rules.specs.Range.{any}
 use Rattle.rules.specs.Month.{Header, Consumer, Month, hours, with_consumers}
@@ -8,9 +8,18 @@ use Rattle.rules.specs.ControlHours.{control_average}
 use Rattle.rules.specs.Sheet.{header_of, layout_of, with_peak}
 use Rattle.rules.specs.Refusals.{one_of, too_high, Test, test, sheet_tests, first_of}
 use Rattle.rules.specs.Outcome.{Outcome, answered, lent_after}
-use Rattle.rules.specs.ComplexRecord.{record_front, record_width, record_length, complex, imported, drawn, sent}
+use Rattle.rules.specs.ComplexRecord.{
+  record_front,
+  record_width,
+  record_length,
+  complex,
+  imported,
+  drawn,
+  sent,
+}
 
--- 16: no whole front; a length field that is wrong about the bytes, or is not the one that the month asks for; no such consumer.
+-- 16: no whole front; a length field that is wrong about the bytes, or is not the one that the month asks
+-- for; no such consumer.
 unfoldable pub bad_record : Header → List ℕ → Bool
 bad_record h r =
     one_of
@@ -32,8 +41,8 @@ high_record h r = one_of (too_high (imported r) ∷ any (high_at r) (hours h) �
 unfoldable pub net : List ℕ → ℕ → ℕ
 net r hour = drawn r hour - sent r hour
 
--- The peak: the control average of net power, rounded once, to a tenth, less imported power, not below 0. Without a control day the
--- average is 0, and so is the peak. [Control hours; Requests, 6]
+-- The peak: the control average of net power, rounded once, to a tenth, less imported power, not below 0.
+-- Without a control day the average is 0, and so is the peak. [Control hours; Requests, 6]
 unfoldable pub complex_peak : Header → List ℕ → ℕ
 complex_peak h r = control_average tenth h (net r) - imported r
 

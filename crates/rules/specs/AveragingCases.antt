@@ -1,17 +1,27 @@
--- Records of industrial complexes of our own, worked out by hand from request 3: the peak with its zero rules and its half, each number at
--- its limit and just past it, in its order, and the sheet afterwards. Figures are in tenths of a megawatt.
+-- Records of industrial complexes of our own, worked out by hand from request 3: the peak with its zero rules
+-- and its half, each number at its limit and just past it, in its order, and the sheet afterwards. Figures
+-- are in tenths of a megawatt.
 use Rattle.std.specs.Prelude.{ℕ, zero, suc, cond, List, [], ◌∷◌, ◌++◌, replicate, eqb, ◌≡◌, refl}
 use Rattle.rules.specs.Month.{Header, Consumer}
 use Rattle.rules.specs.Fields.{bytes_of, joined}
 use Rattle.rules.specs.Refusals.{first_of}
 use Rattle.rules.specs.Outcome.{refused}
-use Rattle.rules.specs.Averaging.{complex_peak, record_tests, average_refusal, average_outcome, peak_written, averaged, with_peak_of}
+use Rattle.rules.specs.Averaging.{
+  complex_peak,
+  record_tests,
+  average_refusal,
+  average_outcome,
+  peak_written,
+  averaged,
+  with_peak_of,
+}
 use Rattle.rules.specs.Samples.{consumer, month, every, at_hour, first_hours, Figure, figure, wrong}
 use Rattle.rules.specs.Open.{settlement, layout, averaging}
 
 -- A month of so many days that begins on a weekday, with holidays and three consumers.
 abbrev month_from : ℕ → ℕ → ℕ → Header
-month_from days weekday holidays = (month days weekday holidays [] [] (replicate 3 (consumer 0 0 0 0 10 0))).header
+month_from days weekday holidays =
+    (month days weekday holidays [] [] (replicate 3 (consumer 0 0 0 0 10 0))).header
 
 -- A record: its length field, consumer and imported power, and powers drawn and sent out in so many hours.
 abbrev front : ℕ → ℕ → ℕ → List ℕ
@@ -20,10 +30,12 @@ front length complex imported = bytes_of 4 length ++ (complex ∷ []) ++ bytes_o
 -- The powers of n hours from hour i on.
 unfoldable pub powers_from : (ℕ → ℕ) → (ℕ → ℕ) → ℕ → ℕ → List ℕ
 powers_from drawn sent zero i = []
-powers_from drawn sent (suc n) i = bytes_of 4 (drawn i) ++ (bytes_of 4 (sent i) ++ powers_from drawn sent n (suc i))
+powers_from drawn sent (suc n) i =
+    bytes_of 4 (drawn i) ++ (bytes_of 4 (sent i) ++ powers_from drawn sent n (suc i))
 
 abbrev record_of : ℕ → ℕ → ℕ → ℕ → (ℕ → ℕ) → (ℕ → ℕ) → List ℕ
-record_of length complex imported hours drawn sent = front length complex imported ++ powers_from drawn sent hours 0
+record_of length complex imported hours drawn sent =
+    front length complex imported ++ powers_from drawn sent hours 0
 
 -- One day, 9 + 192 = 201 bytes; two days, 393.
 abbrev day : ℕ → (ℕ → ℕ) → (ℕ → ℕ) → List ℕ
@@ -52,8 +64,8 @@ peak_cases =
     ∷ figure (monday 200 (in_hour 17 1002 (every 1000)) (every 300)) 500
     ∷ figure (monday 200 (in_hour 17 1003 (every 1000)) (every 300)) 501
     ∷ figure (monday 200 (in_hour 22 1004 (every 1000)) (every 300)) 501
-    -- imported power just below, at and above the rounded average of 70.1, which is 70.05 before it is rounded (taken off before
-    -- the rounding, imported power would give the same, since it is whole)
+    -- imported power just below, at and above the rounded average of 70.1, which is 70.05 before it is
+    -- rounded (taken off before the rounding, imported power would give the same, since it is whole)
     ∷ figure (monday 700 (in_hour 17 1003 (every 1000)) (every 300)) 1
     ∷ figure (monday 701 (in_hour 17 1003 (every 1000)) (every 300)) 0
     ∷ figure (monday 702 (in_hour 17 1003 (every 1000)) (every 300)) 0
@@ -65,25 +77,29 @@ peak_cases =
     ∷ figure (monday 0 (every 1000) (in_hour 18 999 (every 300))) 584
     -- more sent out than drawn in every hour
     ∷ figure (monday 0 (every 300) (every 1000)) 0
-    -- hours 16 and 23 at the ceiling: without effect; hours 17 and 22: 5 × 700 + 100,000 - 300 = 103,200, / 6 = 17,200
+    -- hours 16 and 23 at the ceiling: without effect; hours 17 and 22: 5 × 700 + 100,000 - 300 = 103,200, / 6
+    -- = 17,200
     ∷ figure (monday 0 (at_hour 16 100000 (every 1000)) (every 300)) 700
     ∷ figure (monday 0 (at_hour 23 100000 (every 1000)) (every 300)) 700
     ∷ figure (monday 0 (at_hour 17 100000 (every 1000)) (every 300)) 17200
     ∷ figure (monday 0 (at_hour 22 100000 (every 1000)) (every 300)) 17200
-    -- rounded once: four days from a Monday, 777 bytes, with 0.1 more in 11 of the 24 control hours, 70.0458. By way of 70.05 it would be 70.1
+    -- rounded once: four days from a Monday, 777 bytes, with 0.1 more in 11 of the 24 control hours, 70.0458.
+    -- By way of 70.05 it would be 70.1
     ∷ figure (complex_peak (month_from 4 1 0) (record_of 777 1 0 96 (first_hours 46 1001 (every 1000)) (every 300))) 700
     -- the highest: 10,000.0 drawn in every hour and nothing sent out
     ∷ figure (monday 0 (every 100000) (every 0)) 100000
     -- no control day: a Saturday; a Monday that is a holiday
     ∷ figure (complex_peak (month_from 1 6 0) (day 0 (every 1000) (every 300))) 0
     ∷ figure (complex_peak (month_from 1 1 1) (day 0 (every 1000) (every 300))) 0
-    -- two days, 30.0 sent out on the first and 3.0 on the second: 70.0 and 97.0. From Thursday on 6 × 700 + 6 × 970 = 10,020, / 12 = 835;
-    -- from Friday on 70.0, from Sunday on 97.0; from Thursday on with the second day a holiday 70.0
+    -- two days, 30.0 sent out on the first and 3.0 on the second: 70.0 and 97.0. From Thursday on 6 × 700 + 6
+    -- × 970 = 10,020, / 12 = 835; from Friday on 70.0, from Sunday on 97.0; from Thursday on with the second
+    -- day a holiday 70.0
     ∷ figure (complex_peak (month_from 2 4 0) (days 0 (every 1000) (first_hours 24 300 (every 30)))) 835
     ∷ figure (complex_peak (month_from 2 5 0) (days 0 (every 1000) (first_hours 24 300 (every 30)))) 700
     ∷ figure (complex_peak (month_from 2 7 0) (days 0 (every 1000) (first_hours 24 300 (every 30)))) 970
     ∷ figure (complex_peak (month_from 2 4 2) (days 0 (every 1000) (first_hours 24 300 (every 30)))) 700
-    -- imported power is taken off once, not in each hour: 70.0 on one day and nothing on the other is 35.0, less 20.0
+    -- imported power is taken off once, not in each hour: 70.0 on one day and nothing on the other is 35.0,
+    -- less 20.0
     ∷ figure (complex_peak (month_from 2 4 0) (days 200 (first_hours 24 700 (every 0)) (every 0))) 150
     ∷ []
 
@@ -111,7 +127,8 @@ record_cases =
     ∷ figure (number (record_of 201 2 0 24 (every 1) (every 0))) 0
     ∷ figure (number (record_of 201 3 0 24 (every 1) (every 0))) 16
     ∷ figure (number (record_of 201 255 0 24 (every 1) (every 0))) 16
-    -- 10,000.0 and 10,000.1 as imported power; drawn in a control hour, in the first and in the last hour; sent out in these
+    -- 10,000.0 and 10,000.1 as imported power; drawn in a control hour, in the first and in the last hour;
+    -- sent out in these
     ∷ figure (number (day 100000 (every 100000) (every 100000))) 0
     ∷ figure (number (day 100001 (every 0) (every 0))) 17
     ∷ figure (number (day 0 (in_hour 17 100001 (every 0)) (every 0))) 17
@@ -120,9 +137,11 @@ record_cases =
     ∷ figure (number (day 0 (every 0) (in_hour 17 100001 (every 0)))) 17
     ∷ figure (number (day 0 (every 0) (in_hour 0 100001 (every 0)))) 17
     ∷ figure (number (day 0 (every 0) (in_hour 23 100001 (every 0)))) 17
-    -- 10,000.1 drawn and 0.1 sent out in one hour: net power, 10,000.0, is at the ceiling, but the power drawn is above it
+    -- 10,000.1 drawn and 0.1 sent out in one hour: net power, 10,000.0, is at the ceiling, but the power
+    -- drawn is above it
     ∷ figure (number (day 0 (in_hour 17 100001 (every 0)) (every 1))) 17
-    -- the order of the numbers: no such consumer, and 10,000.1 sent out; the front alone, with 10,000.1 imported
+    -- the order of the numbers: no such consumer, and 10,000.1 sent out; the front alone, with 10,000.1
+    -- imported
     ∷ figure (number (record_of 201 3 0 24 (every 0) (every 100001))) 16
     ∷ figure (number (front 9 1 100001)) 16
     ∷ []
@@ -156,12 +175,13 @@ pub peak_figures_hold : wrong peak_figures ≡ []
 unfolding settlement peak_figures
 peak_figures_hold = refl
 
--- A consumer, 15 bytes: contract volume 100.0 (1,000 = 3 × 256 + 232), its peak in four bytes, no mining days, z in tenths, price 0.
+-- A consumer, 15 bytes: contract volume 100.0 (1,000 = 3 × 256 + 232), its peak in four bytes, no mining
+-- days, z in tenths, price 0.
 abbrev consumer_bytes : List ℕ → ℕ → List ℕ
 consumer_bytes peak z = (0 ∷ 0 ∷ 3 ∷ 232 ∷ []) ++ peak ++ (0 ∷ 0 ∷ z ∷ 0 ∷ 0 ∷ 0 ∷ 0 ∷ [])
 
--- A sheet of a month from a Monday on, with no producer, no row and three consumers, 14 + 3 × 15 = 59 bytes: its version, its days, the
--- peak of consumer 1, the z of consumer 2. The other two have peaks of 0.9.
+-- A sheet of a month from a Monday on, with no producer, no row and three consumers, 14 + 3 × 15 = 59 bytes:
+-- its version, its days, the peak of consumer 1, the z of consumer 2. The other two have peaks of 0.9.
 abbrev three_consumers : ℕ → ℕ → List ℕ → ℕ → List ℕ
 three_consumers version days peak z =
     (0 ∷ 0 ∷ 0 ∷ 59 ∷ version ∷ days ∷ 1 ∷ 0 ∷ 0 ∷ 0 ∷ 0 ∷ 0 ∷ 0 ∷ 3 ∷ [])
@@ -172,21 +192,24 @@ three_consumers version days peak z =
 abbrev plain : List ℕ
 plain = three_consumers 1 28 (0 ∷ 0 ∷ 0 ∷ 9 ∷ []) 10
 
--- A record of one day, by its bytes: 201 in all, consumer 1, 20.0 (200) imported; in every hour 100.0 (3 × 256 + 232) drawn and 30.0
--- (256 + 44) sent out.
+-- A record of one day, by its bytes: 201 in all, consumer 1, 20.0 (200) imported; in every hour 100.0 (3 ×
+-- 256 + 232) drawn and 30.0 (256 + 44) sent out.
 abbrev one_day : List ℕ
-one_day = (0 ∷ 0 ∷ 0 ∷ 201 ∷ 1 ∷ 0 ∷ 0 ∷ 0 ∷ 200 ∷ []) ++ joined (λ i. 0 ∷ 0 ∷ 3 ∷ 232 ∷ 0 ∷ 0 ∷ 1 ∷ 44 ∷ []) 24
+one_day =
+    (0 ∷ 0 ∷ 0 ∷ 201 ∷ 1 ∷ 0 ∷ 0 ∷ 0 ∷ 200 ∷ []) ++ joined (λ i. 0 ∷ 0 ∷ 3 ∷ 232 ∷ 0 ∷ 0 ∷ 1 ∷ 44 ∷ []) 24
 
--- The sheet of that day with the peak of 50.0 (500 = 256 + 244): it is written for consumer 1, and no other byte changes. (A sheet that is
--- accepted has 28 days or more, and its record too many bytes to be computed here: the stored records have such cases.)
--- The sheet states version 2, so that its fifth byte is not the consumer's number too; the peak before is higher, 6,605.7 (66,057 =
--- 65,536 + 2 × 256 + 9).
-pub peak_is_written : peak_written (three_consumers 2 1 (0 ∷ 1 ∷ 2 ∷ 9 ∷ []) 10) one_day ≡ three_consumers 2 1 (0 ∷ 0 ∷ 1 ∷ 244 ∷ []) 10
+-- The sheet of that day with the peak of 50.0 (500 = 256 + 244): it is written for consumer 1, and no other
+-- byte changes. (A sheet that is accepted has 28 days or more, and its record too many bytes to be computed
+-- here: the stored records have such cases.) The sheet states version 2, so that its fifth byte is not the
+-- consumer's number too; the peak before is higher, 6,605.7 (66,057 = 65,536 + 2 × 256 + 9).
+pub peak_is_written : peak_written (three_consumers 2 1 (0 ∷ 1 ∷ 2 ∷ 9 ∷ []) 10) one_day
+    ≡ three_consumers 2 1 (0 ∷ 0 ∷ 1 ∷ 244 ∷ []) 10
 unfolding settlement layout averaging
 peak_is_written = refl
 
 -- In version 3 too. [Requests, 7]
-pub peak_written_in_3 : peak_written (three_consumers 3 1 (0 ∷ 1 ∷ 2 ∷ 9 ∷ []) 10) one_day ≡ three_consumers 3 1 (0 ∷ 0 ∷ 1 ∷ 244 ∷ []) 10
+pub peak_written_in_3 : peak_written (three_consumers 3 1 (0 ∷ 1 ∷ 2 ∷ 9 ∷ []) 10) one_day
+    ≡ three_consumers 3 1 (0 ∷ 0 ∷ 1 ∷ 244 ∷ []) 10
 unfolding settlement layout averaging
 peak_written_in_3 = refl
 

@@ -11,8 +11,9 @@ use Rattle.rules.specs.Open.{settlement}
 unfoldable pub consumer_month : ℕ → ℕ → Month
 consumer_month contract peak = month 30 1 0 [] [] (consumer contract peak 0 0 10 0 ∷ [])
 
--- One producer of given attested capacity and outside use in a month of 30 days, with a support row of 100.0 MW and deductible 10.0; possible
--- power is 110.0 and working power 99.0 throughout; upward bids lack in 72 hours, downward bids in 36; nothing else is missing.
+-- One producer of given attested capacity and outside use in a month of 30 days, with a support row of 100.0
+-- MW and deductible 10.0; possible power is 110.0 and working power 99.0 throughout; upward bids lack in 72
+-- hours, downward bids in 36; nothing else is missing.
 unfoldable pub producer_month : ℕ → ℕ → Month
 producer_month attested outside =
     month 30 1 0

@@ -1,4 +1,5 @@
--- Coefficients of a producer, in millionths, each rounded. T and S are its support volume and summed capacity after the cut.
+-- Coefficients of a producer, in millionths, each rounded. T and S are its support volume and summed capacity
+-- after the cut.
 use Rattle.std.specs.Prelude.{ℕ, zero, suc, ◌-◌, ◌*◌, min, max, List, [], ◌∷◌}
 use Rattle.rules.specs.Range.{sum}
 use Rattle.rules.specs.Units.{rounded, one, hundredth, in_hundredths, in_thousandths}
@@ -21,12 +22,13 @@ ratio part whole = record { part = part; whole = whole }
 unfoldable pub millionths_of : Ratio → ℕ
 millionths_of r = share r.part r.whole
 
--- D of k1, in hundredths: the control average of outside use less deductible, not below 0. [Coefficients, k1; Requests, 6; A2 p. 1]
+-- D of k1, in hundredths: the control average of outside use less deductible, not below 0. [Coefficients, k1;
+-- Requests, 6; A2 p. 1]
 unfoldable pub overuse : Header → Producer → ℕ
 overuse h p = control_average hundredth h p.outside_use - in_hundredths p.deductible
 
--- n × D of k1: n is the band of D over deductible, in tenths, so the product is in thousandths of a megawatt. [Coefficients, k1;
--- Requests, 6; A2 p. 1]
+-- n × D of k1: n is the band of D over deductible, in tenths, so the product is in thousandths of a megawatt.
+-- [Coefficients, k1; Requests, 6; A2 p. 1]
 unfoldable pub penalty : Header → Producer → ℕ
 penalty h p = band_of (thousandths (overuse h p) (in_hundredths p.deductible)) * overuse h p
 
@@ -77,7 +79,8 @@ k5 h p = share (hours h - p.no_plan) (hours h)
 unfoldable pub from_k5 : Header → Producer → List ℕ
 from_k5 h p = k5 h p ∷ p.k6 ∷ p.k7 ∷ p.k8 ∷ p.k9 ∷ p.k10 ∷ []
 
--- k1 to k10, in the order in which a row's volume is multiplied by them where its producer has more than one row. [Rows; p. 43]
+-- k1 to k10, in the order in which a row's volume is multiplied by them where its producer has more than one
+-- row. [Rows; p. 43]
 unfoldable pub in_order : Header → Producer → ℕ → ℕ → List ℕ
 in_order h p T S = k1 h p T ∷ k2 h p ∷ p.k3 ∷ k4 h p S ∷ from_k5 h p
 

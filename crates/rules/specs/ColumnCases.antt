@@ -16,16 +16,16 @@ use Rattle.rules.specs.Open.{settlement, layout}
 abbrev hourly : ℕ → ℕ → List ℕ
 hourly high hour = 0 ∷ 0 ∷ high ∷ hour ∷ []
 
--- A day of a producer's hours, each hour's three powers together, and the same by column: working powers 256 × high + hour, possible ones
--- 256 more, outside uses 512 more.
+-- A day of a producer's hours, each hour's three powers together, and the same by column: working powers 256
+-- × high + hour, possible ones 256 more, outside uses 512 more.
 abbrev tripled : ℕ → List ℕ
 tripled high = joined (λ hour. hourly high hour ++ hourly (high + 1) hour ++ hourly (high + 2) hour) 24
 
 abbrev columned : ℕ → List ℕ
 columned high = joined (hourly high) 24 ++ joined (hourly (high + 1)) 24 ++ joined (hourly (high + 2)) 24
 
--- A month of one day, a Monday: two producers, with stated bytes 7 and 8, a row from day 9 to day 10 and a consumer with nothing but bytes
--- 11. 14 + 2 × (42 + 288) + 12 + 15 = 701 bytes (2 × 256 + 189).
+-- A month of one day, a Monday: two producers, with stated bytes 7 and 8, a row from day 9 to day 10 and a
+-- consumer with nothing but bytes 11. 14 + 2 × (42 + 288) + 12 + 15 = 701 bytes (2 × 256 + 189).
 abbrev sheet_in : ℕ → (ℕ → List ℕ) → List ℕ
 sheet_in version hours_from =
     (0 ∷ 0 ∷ 2 ∷ 189 ∷ version ∷ 1 ∷ 1 ∷ 0 ∷ 0 ∷ 0 ∷ 0 ∷ 2 ∷ 1 ∷ 1 ∷ [])
@@ -69,7 +69,8 @@ readings =
     ∷ figure (m.row 0).first 9
     ∷ figure (m.row 0).last 10
     ∷ figure (m.consumer 0).supplier 11
-    -- k4 of producer 0, S above all powers: 24 × 256 + (0 + 1 + .. + 23) = 6,144 + 276 = 6,420 of 24 × 512 + 276 = 12,564, 0.510984
+    -- k4 of producer 0, S above all powers: 24 × 256 + (0 + 1 + .. + 23) = 6,144 + 276 = 6,420 of 24 × 512 +
+    -- 276 = 12,564, 0.510984
     ∷ figure (k4 m.header (m.producer 0) 100000) 510984
     -- the average of outside use over hours 17 to 22: 768 + 19.5 tenths, 78.75 megawatts
     ∷ figure (control_average hundredth m.header (m.producer 0).outside_use) 7875
@@ -77,7 +78,17 @@ readings =
 
 -- Where the columns begin in the longest month: 4 × 24 × 31 = 2,976 bytes each.
 abbrev longest : Layout
-longest = record { version = 3; header = record { days = 31; weekday = 1; holidays = 0; producers = 1; rows = 0; consumers = 0 } }
+longest = record {
+  version = 3;
+  header = record {
+    days = 31;
+    weekday = 1;
+    holidays = 0;
+    producers = 1;
+    rows = 0;
+    consumers = 0;
+  };
+}
 
 unfoldable pub starts : List Figure
 starts =
@@ -87,8 +98,9 @@ starts =
     ∷ figure (hour_series longest).outside.step 4
     ∷ []
 
--- A producer of one day with nothing but 0 in it save one power, in a sheet of version 3: the bytes of its hours before that power and after
--- it, and the power's last byte. 14 + 42 + 288 = 344 bytes (256 + 88). 100,000 is 65,536 + 134 × 256 + 160.
+-- A producer of one day with nothing but 0 in it save one power, in a sheet of version 3: the bytes of its
+-- hours before that power and after it, and the power's last byte. 14 + 42 + 288 = 344 bytes (256 + 88).
+-- 100,000 is 65,536 + 134 × 256 + 160.
 abbrev one_power : ℕ → ℕ → ℕ → List ℕ
 one_power before after low =
     (0 ∷ 0 ∷ 1 ∷ 88 ∷ 3 ∷ 1 ∷ 1 ∷ 0 ∷ 0 ∷ 0 ∷ 0 ∷ 1 ∷ 0 ∷ 0 ∷ [])
@@ -111,7 +123,8 @@ numbers =
     ∷ figure (nine (one_power 192 92 161)) 1
     ∷ figure (nine (one_power 284 0 161)) 1
     ∷ figure (nine (one_power 284 0 160)) 0
-    -- a row takes 12 bytes: 14 + 12 = 26 are refused for the row's producer, 0 of 0, and 14 + 10 = 24 for their length
+    -- a row takes 12 bytes: 14 + 12 = 26 are refused for the row's producer, 0 of 0, and 14 + 10 = 24 for
+    -- their length
     ∷ figure (refusal ((0 ∷ 0 ∷ 0 ∷ 26 ∷ 3 ∷ 28 ∷ 1 ∷ 0 ∷ 0 ∷ 0 ∷ 0 ∷ 0 ∷ 1 ∷ 0 ∷ []) ++ replicate 10 0 ++ (1 ∷ 28 ∷ [])) 37) 10
     ∷ figure (refusal ((0 ∷ 0 ∷ 0 ∷ 24 ∷ 3 ∷ 28 ∷ 1 ∷ 0 ∷ 0 ∷ 0 ∷ 0 ∷ 0 ∷ 1 ∷ 0 ∷ []) ++ replicate 10 0) 37) 6
     ∷ []

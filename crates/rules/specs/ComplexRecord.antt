@@ -1,4 +1,5 @@
--- The record of an industrial complex: where each figure of it stands. No other definition knows a place in the record. [Requests, 3]
+-- The record of an industrial complex: where each figure of it stands. No other definition knows a place in
+-- the record. [Requests, 3]
 use Rattle.std.specs.Prelude.{ℕ, ◌+◌, ◌*◌, List}
 use Rattle.rules.specs.Month.{Header, hours}
 use Rattle.rules.specs.Fields.{big_endian}

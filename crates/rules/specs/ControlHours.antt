@@ -1,12 +1,12 @@
--- Control hours: the evening hours of working days over which outside use is averaged. Days are counted from 0 here, day 1 of the month
--- being 0, and hours run through the month.
+-- Control hours: the evening hours of working days over which outside use is averaged. Days are counted from
+-- 0 here, day 1 of the month being 0, and hours run through the month.
 use Rattle.std.specs.Prelude.{ℕ, zero, suc, ◌+◌, ◌*◌, ◌/◌, ◌%◌, ◌^◌, Bool, not, ◌&&◌, leb, eqb}
 use Rattle.rules.specs.Range.{sum, when}
 use Rattle.rules.specs.Units.{rounded}
 use Rattle.rules.specs.Month.{Header, hours}
 
--- The weekday of a day in a month that begins on a weekday, Monday 1 to Sunday 7. 6 stands in place of -1: a weekday back is six on.
--- [Control hours; p. 2, 4)]
+-- The weekday of a day in a month that begins on a weekday, Monday 1 to Sunday 7. 6 stands in place of -1: a
+-- weekday back is six on. [Control hours; p. 2, 4)]
 unfoldable pub weekday_on : ℕ → ℕ → ℕ
 weekday_on first day = (first + day + 6) % 7 + 1
 
@@ -26,7 +26,8 @@ control_day h day = control_weekday h.weekday day && not (holiday_on h day)
 unfoldable pub control_hour : Header → ℕ → Bool
 control_hour h hour = leb 17 (hour % 24) && leb (hour % 24) 22 && control_day h (hour / 24)
 
--- What an hour of a series adds to the control sum: its figure in a control hour, otherwise nothing. [Control hours]
+-- What an hour of a series adds to the control sum: its figure in a control hour, otherwise nothing. [Control
+-- hours]
 unfoldable pub counted : Header → (ℕ → ℕ) → ℕ → ℕ
 counted h series hour = when (control_hour h hour) (series hour)
 
@@ -47,7 +48,7 @@ unfoldable pub average : ℕ → ℕ → ℕ
 average total zero = 0
 average total (suc n) = rounded total (suc n)
 
--- The control average of a series of tenths, rounded to a tenth or a hundredth, in units of that fineness; 0 in a month without a control
--- day. [Control hours; Requests, 6; A2 p. 1]
+-- The control average of a series of tenths, rounded to a tenth or a hundredth, in units of that fineness; 0
+-- in a month without a control day. [Control hours; Requests, 6; A2 p. 1]
 unfoldable pub control_average : ℕ → Header → (ℕ → ℕ) → ℕ
 control_average fineness h series = average (fineness * control_sum h series) (control_count h)

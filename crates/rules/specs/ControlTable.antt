@@ -1,5 +1,6 @@
--- The table of control weekdays, which control days are read from: for each weekday that a month may begin on, Monday 1 to Sunday 7, which of
--- its days fall on Monday to Friday. Days are counted from 0. [Requests, 2, throughout]
+-- The table of control weekdays, which control days are read from: for each weekday that a month may begin
+-- on, Monday 1 to Sunday 7, which of its days fall on Monday to Friday. Days are counted from 0. [Requests,
+-- 2, throughout]
 use Rattle.std.specs.Prelude.{ℕ, zero, suc, Bool, not, cond, ◌&&◌, List, get_or, replicate, leb, eqb}
 use Rattle.rules.specs.Range.{listed}
 use Rattle.rules.specs.Month.{Header}

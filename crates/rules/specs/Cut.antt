@@ -19,8 +19,8 @@ bilateral m j = not (support m j)
 abbrev pub sold : Month → ℕ → ℕ
 sold m j = (m.row j).volume
 
--- What row j adds to the volume of producer p's rows, where each row counts with a volume v: that which the sheet has, or that after the
--- cut. [Cut; Requests, 8]
+-- What row j adds to the volume of producer p's rows, where each row counts with a volume v: that which the
+-- sheet has, or that after the cut. [Cut; Requests, 8]
 unfoldable pub own_volume : Month → (ℕ → ℕ) → ℕ → ℕ → ℕ
 own_volume m v p j = when (owns m p j) (v j)
 
@@ -44,11 +44,13 @@ bilateral_volume m v p = sum (own_bilateral m v p) m.header.rows
 unfoldable pub summed_capacity : Month → (ℕ → ℕ) → ℕ → ℕ
 summed_capacity m v p = support_volume m v p + bilateral_volume m v p + (m.producer p).deductible
 
--- The excess: S of the volumes that the sheet has, less own needs, less attested capacity, neither below 0. [Cut; p. 35, 90]
+-- The excess: S of the volumes that the sheet has, less own needs, less attested capacity, neither below 0.
+-- [Cut; p. 35, 90]
 unfoldable pub excess : Month → ℕ → ℕ
 excess m p = summed_capacity m (sold m) p - (m.producer p).own_needs - (m.producer p).attested
 
--- What is left of producer p's excess when row j's turn comes: its rows before j have yielded all they could. [Cut]
+-- What is left of producer p's excess when row j's turn comes: its rows before j have yielded all they could.
+-- [Cut]
 unfoldable pub left_to_cut : Month → ℕ → ℕ → ℕ
 left_to_cut m p j = excess m p - sum (own_volume m (sold m) p) j
 
@@ -64,8 +66,8 @@ row_count m p = sum (λ j. when (owns m p j) 1) m.header.rows
 unfoldable pub single : Month → ℕ → Bool
 single m p = eqb (row_count m p) 1
 
--- The same cut as it is told, row by row: each volume in its turn yields what it can, until nothing is left to cut. [Cut]
--- (row_by_row, in laws/Cut, shows that the volumes after the cut are these.)
+-- The same cut as it is told, row by row: each volume in its turn yields what it can, until nothing is left
+-- to cut. [Cut] (row_by_row, in laws/Cut, shows that the volumes after the cut are these.)
 unfoldable pub cut_in_order : ℕ → List ℕ → List ℕ
 cut_in_order left [] = []
 cut_in_order left (v ∷ vs) = (v - min v left) ∷ cut_in_order (left - min v left) vs

@@ -1,5 +1,21 @@
 -- Fields: unsigned and big-endian, one definition for every width. [Units and the sheet]
-use Rattle.std.specs.Prelude.{ℕ, zero, suc, ◌+◌, ◌*◌, ◌/◌, ◌%◌, List, [], ◌∷◌, ◌++◌, length, get_or, take, drop}
+use Rattle.std.specs.Prelude.{
+  ℕ,
+  zero,
+  suc,
+  ◌+◌,
+  ◌*◌,
+  ◌/◌,
+  ◌%◌,
+  List,
+  [],
+  ◌∷◌,
+  ◌++◌,
+  length,
+  get_or,
+  take,
+  drop,
+}
 use Rattle.rules.specs.Range.{listed}
 
 -- The number in the w bytes of s from place at; a byte past the end counts as 0.

@@ -1,8 +1,17 @@
--- The limits that an accepted sheet keeps to (document 01, When a sheet is turned down), each by name, with the number of the refusal that guards it.
+-- The limits that an accepted sheet keeps to (document 01, When a sheet is turned down), each by name, with
+-- the number of the refusal that guards it.
 use Rattle.std.specs.Prelude.{ℕ, ◌^◌, ◌≤◌, ◌<◌, ◌≡◌, List, length}
 use Rattle.rules.specs.Units.{tenths_ceiling, tiyn_ceiling, one}
 use Rattle.rules.specs.Month.{Header, Producer, Row, Consumer, Month, hours}
-use Rattle.rules.specs.Sheet.{header_width, length_field, version, header_of, layout_of, sheet_length, month_of}
+use Rattle.rules.specs.Sheet.{
+  header_width,
+  length_field,
+  version,
+  header_of,
+  layout_of,
+  sheet_length,
+  month_of,
+}
 use Rattle.rules.specs.Result.{result_length}
 
 -- Numbers 4 and 5. No holiday stands past the month's end: the bits are below 2^days.

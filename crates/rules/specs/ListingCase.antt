@@ -1,17 +1,18 @@
--- The example of document 01, Listing, as bytes: a sheet that holds a single consumer (DO 100.0, peak 126.0, no mining days, z 1.0, at
--- 1,000 tenge), and its result.
+-- The example of document 01, Listing, as bytes: a sheet that holds a single consumer (DO 100.0, peak 126.0,
+-- no mining days, z 1.0, at 1,000 tenge), and its result.
 use Rattle.std.specs.Prelude.{ℕ, List, [], ◌∷◌, ◌++◌, replicate, ◌≡◌, refl}
 use Rattle.rules.specs.Outcome.{refused, written, outcome, buffer_after}
 use Rattle.rules.specs.Open.{settlement, layout}
 
--- Header: length 29, version 1, 30 days from a Monday, no holiday, P 0, R 0, C 1. Consumer: 1000, 1260, 0, 0, 10, 100,000.
+-- Header: length 29, version 1, 30 days from a Monday, no holiday, P 0, R 0, C 1. Consumer: 1000, 1260, 0, 0,
+-- 10, 100,000.
 unfoldable pub example_sheet : List ℕ
 example_sheet =
     (0 ∷ 0 ∷ 0 ∷ 29 ∷ 1 ∷ 30 ∷ 1 ∷ 0 ∷ 0 ∷ 0 ∷ 0 ∷ 0 ∷ 0 ∷ 1 ∷ [])
     ++ (0 ∷ 0 ∷ 3 ∷ 232 ∷ 0 ∷ 0 ∷ 4 ∷ 236 ∷ 0 ∷ 0 ∷ 10 ∷ 0 ∷ 1 ∷ 134 ∷ 160 ∷ [])
 
--- Length 46, version 1. Credit 0, p 210, n 15, actual volume 1240 (4 × 256 + 216), charge 12,400,000 (189 × 65,536 + 53 × 256 + 128).
--- Total paid 0, total charged the same 12,400,000.
+-- Length 46, version 1. Credit 0, p 210, n 15, actual volume 1240 (4 × 256 + 216), charge 12,400,000 (189 ×
+-- 65,536 + 53 × 256 + 128). Total paid 0, total charged the same 12,400,000.
 unfoldable pub example_result : List ℕ
 example_result =
     (0 ∷ 0 ∷ 0 ∷ 46 ∷ 1 ∷ [])

@@ -1,5 +1,5 @@
--- What is answered and what is left behind under the text of 2015, for every sheet and every result buffer. The numbers are those of the
--- settlement, but 7 asks for the room of this result. [Requests, 4, throughout]
+-- What is answered and what is left behind under the text of 2015, for every sheet and every result buffer.
+-- The numbers are those of the settlement, but 7 asks for the room of this result. [Requests, 4, throughout]
 use Rattle.std.specs.Prelude.{ℕ, ◌≡◌, List, length}
 use Rattle.rules.specs.Fields.{over}
 use Rattle.rules.specs.Sheet.{header_of, month_of}
@@ -28,6 +28,7 @@ Limits2015 s room = LimitsFor (length_2015 (header_of s)) s room
 unfoldable pub outcome_2015 : List ℕ → ℕ → Outcome
 outcome_2015 s room = answered (refusal_2015 s room) (length_2015 (header_of s))
 
--- The result buffer afterwards: the result from its beginning, and past it what was there; after a refusal all of what was there.
+-- The result buffer afterwards: the result from its beginning, and past it what was there; after a refusal
+-- all of what was there.
 unfoldable pub buffer_after_2015 : List ℕ → List ℕ → List ℕ
 buffer_after_2015 s out = lent_after (refusal_2015 s (length out)) (over (result_2015 (month_of s)) out) out

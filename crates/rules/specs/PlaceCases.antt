@@ -1,28 +1,42 @@
--- A sheet and a result of our own, written out byte by byte from document 01's widths, to be read and laid by Sheet and Result.
+-- A sheet and a result of our own, written out byte by byte from document 01's widths, to be read and laid by
+-- Sheet and Result.
 use Rattle.std.specs.Prelude.{ℕ, List, [], ◌∷◌, ◌++◌, replicate, ◌≡◌, refl}
 use Rattle.rules.specs.Month.{Month}
 use Rattle.rules.specs.Fields.{width_of}
 use Rattle.rules.specs.Sheet.{layout_of, month_of, length_field, sheet_length}
-use Rattle.rules.specs.Result.{consumer_figures, consumer_fields, result_of, row_record_at, consumer_record_at, totals_at, read_row, read_consumer, read_totals}
+use Rattle.rules.specs.Result.{
+  consumer_figures,
+  consumer_fields,
+  result_of,
+  row_record_at,
+  consumer_record_at,
+  totals_at,
+  read_row,
+  read_consumer,
+  read_totals,
+}
 use Rattle.rules.specs.Outcome.{hours_stretch, within}
 use Rattle.rules.specs.Samples.{producer, row, consumer, month, every, Figure, figure, wrong}
 use Rattle.rules.specs.Open.{settlement, layout}
 
--- One day keeps it short (no sheet of one day is accepted, but it is read alike): a producer's hours are 288 bytes, a producer 330, two
--- of them with two rows and two consumers 14 + 2 × 330 + 2 × 10 + 2 × 15 = 724 bytes (2 × 256 + 212). Weekday 5, holidays 65,536 + 2.
+-- One day keeps it short (no sheet of one day is accepted, but it is read alike): a producer's hours are 288
+-- bytes, a producer 330, two of them with two rows and two consumers 14 + 2 × 330 + 2 × 10 + 2 × 15 = 724
+-- bytes (2 × 256 + 212). Weekday 5, holidays 65,536 + 2.
 unfoldable pub laid_sheet : List ℕ
 laid_sheet =
     (0 ∷ 0 ∷ 2 ∷ 212 ∷ 1 ∷ 1 ∷ 5 ∷ 0 ∷ 1 ∷ 0 ∷ 2 ∷ 2 ∷ 2 ∷ 2 ∷ [])
     -- producer 0: all zero
     ++ replicate 330 0
-    -- producer 1: attested 257, deductible 3, own needs 4; hours 5, 6, 256 + 7; k3 8, k6 9, k7 10, k8 11, k9 12, k10 13
+    -- producer 1: attested 257, deductible 3, own needs 4; hours 5, 6, 256 + 7; k3 8, k6 9, k7 10, k8 11, k9
+    -- 12, k10 13
     ++ (0 ∷ 0 ∷ 1 ∷ 1 ∷ 0 ∷ 0 ∷ 0 ∷ 3 ∷ 0 ∷ 0 ∷ 0 ∷ 4 ∷ 0 ∷ 5 ∷ 0 ∷ 6 ∷ 1 ∷ 7 ∷ [])
     ++ (0 ∷ 0 ∷ 0 ∷ 8 ∷ 0 ∷ 0 ∷ 0 ∷ 9 ∷ 0 ∷ 0 ∷ 0 ∷ 10 ∷ 0 ∷ 0 ∷ 0 ∷ 11 ∷ 0 ∷ 0 ∷ 0 ∷ 12 ∷ 0 ∷ 0 ∷ 0 ∷ 13 ∷ [])
     -- its hours 0 and 1: working, possible, outside use; the rest zero but the last hour's outside use
     ++ (0 ∷ 0 ∷ 0 ∷ 14 ∷ 0 ∷ 0 ∷ 0 ∷ 15 ∷ 0 ∷ 0 ∷ 0 ∷ 16 ∷ 0 ∷ 0 ∷ 0 ∷ 17 ∷ 0 ∷ 0 ∷ 0 ∷ 18 ∷ 0 ∷ 0 ∷ 0 ∷ 19 ∷ [])
     ++ replicate 260 0
     ++ (0 ∷ 0 ∷ 0 ∷ 20 ∷ [])
-    -- row 0: producer 1, consumer 255, volume 21, price 22; row 1: producer 0, consumer 1, volume 23, price 24
+    -- row 0: producer 1, consumer 255, volume 21, price 22; row 1: producer 0, consumer 1, volume 23, price
+    -- 24
     ++ (1 ∷ 255 ∷ 0 ∷ 0 ∷ 0 ∷ 21 ∷ 0 ∷ 0 ∷ 0 ∷ 22 ∷ 0 ∷ 1 ∷ 0 ∷ 0 ∷ 0 ∷ 23 ∷ 0 ∷ 0 ∷ 0 ∷ 24 ∷ [])
     -- consumer 0: contract volume 25, peak 26, T'' 27, T''' 28, z 29, price 30; consumer 1: 31 to 36
     ++ (0 ∷ 0 ∷ 0 ∷ 25 ∷ 0 ∷ 0 ∷ 0 ∷ 26 ∷ 27 ∷ 28 ∷ 29 ∷ 0 ∷ 0 ∷ 0 ∷ 30 ∷ [])
@@ -81,12 +95,13 @@ readings =
     ∷ figure (m.consumer 1).price 36
     ∷ []
 
--- A producer of attested capacity 33.0 and k3 0.5 with a bilateral row of 40.0 at 100 tiyn (after the cut 30.0, actual 15.0,
--- paid 1,500), a support row of 0.1 at 20 tiyn that is too late to be cut (actual 0.05 rounded 0.1, paid 2) and a bilateral row
--- of 3.0 at 40 tiyn (actual 1.5, paid 60); the deductible of 0.1 is covered by own needs of 0.2.
--- The first consumer, of DO 10.0, peak 30.0, price 1,000, has a credit of 15.0: counted peak 15.0, Do 4.5, p 450, n 1.7;
--- 10 + 1.7 × (4.5 - 0.5) = 16.8, charged 16,800. The second, of DO 2.0, peak 4.0, price 500, has a credit of 1.5: counted peak 2.5,
--- Do 0.4, p 200, n 1.3; 2 + 1.3 × (0.4 - 0.1) = 2.39, so 2.4, charged 1,200.
+-- A producer of attested capacity 33.0 and k3 0.5 with a bilateral row of 40.0 at 100 tiyn (after the cut
+-- 30.0, actual 15.0, paid 1,500), a support row of 0.1 at 20 tiyn that is too late to be cut (actual 0.05
+-- rounded 0.1, paid 2) and a bilateral row of 3.0 at 40 tiyn (actual 1.5, paid 60); the deductible of 0.1 is
+-- covered by own needs of 0.2. The first consumer, of DO 10.0, peak 30.0, price 1,000, has a credit of 15.0:
+-- counted peak 15.0, Do 4.5, p 450, n 1.7; 10 + 1.7 × (4.5 - 0.5) = 16.8, charged 16,800. The second, of DO
+-- 2.0, peak 4.0, price 500, has a credit of 1.5: counted peak 2.5, Do 0.4, p 200, n 1.3; 2 + 1.3 × (0.4 -
+-- 0.1) = 2.39, so 2.4, charged 1,200.
 unfoldable pub laid_month : Month
 laid_month =
     month 28 1 0
@@ -94,8 +109,8 @@ laid_month =
     (row 0 0 400 100 ∷ row 0 255 1 20 ∷ row 0 1 30 40 ∷ [])
     (consumer 100 300 0 0 10 1000 ∷ consumer 20 40 0 0 10 500 ∷ [])
 
--- Length 21 + 3 × 16 + 2 × 25 = 119, version 1; rows; consumers (16,800 is 65 × 256 + 160, 1,200 is 4 × 256 + 176); total paid
--- 1,562 (6 × 256 + 26), total charged 18,000 (70 × 256 + 80).
+-- Length 21 + 3 × 16 + 2 × 25 = 119, version 1; rows; consumers (16,800 is 65 × 256 + 160, 1,200 is 4 × 256 +
+-- 176); total paid 1,562 (6 × 256 + 26), total charged 18,000 (70 × 256 + 80).
 unfoldable pub laid_result : List ℕ
 laid_result =
     (0 ∷ 0 ∷ 0 ∷ 119 ∷ 1 ∷ [])
@@ -122,10 +137,11 @@ back_readings =
     ∷ figure (width_of (consumer_fields (consumer_figures laid_month 0))) 25
     ∷ []
 
--- A version, and two producers with nothing but bytes 255, in 28 days: 14 + 2 × (42 + 288 × 28) = 14 + 2 × 8,106 = 16,226 bytes
--- (63 × 256 + 98). Number 8 refuses version 1 of it; its hours are found all the same.
+-- A version, and two producers with nothing but bytes 255, in 28 days: 14 + 2 × (42 + 288 × 28) = 14 + 2 ×
+-- 8,106 = 16,226 bytes (63 × 256 + 98). Number 8 refuses version 1 of it; its hours are found all the same.
 unfoldable pub hours_sheet : ℕ → List ℕ
-hours_sheet version = (0 ∷ 0 ∷ 63 ∷ 98 ∷ version ∷ 28 ∷ 1 ∷ 0 ∷ 0 ∷ 0 ∷ 0 ∷ 2 ∷ 0 ∷ 0 ∷ []) ++ replicate 16212 255
+hours_sheet version =
+    (0 ∷ 0 ∷ 63 ∷ 98 ∷ version ∷ 28 ∷ 1 ∷ 0 ∷ 0 ∷ 0 ∷ 0 ∷ 2 ∷ 0 ∷ 0 ∷ []) ++ replicate 16212 255
 
 unfoldable pub stretches : List Figure
 stretches =
@@ -158,6 +174,7 @@ pub hours_found : wrong stretches ≡ []
 unfolding settlement layout hours_stretch hours_sheet stretches
 hours_found = refl
 
-pub hours_taken : within (record { place = 2; bytes = 3 }) (10 ∷ 11 ∷ 12 ∷ 13 ∷ 14 ∷ 15 ∷ []) ≡ 12 ∷ 13 ∷ 14 ∷ []
+pub hours_taken : within (record { place = 2; bytes = 3 }) (10 ∷ 11 ∷ 12 ∷ 13 ∷ 14 ∷ 15 ∷ [])
+    ≡ 12 ∷ 13 ∷ 14 ∷ []
 unfolding within
 hours_taken = refl

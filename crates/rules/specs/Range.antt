@@ -1,4 +1,5 @@
--- Sums, tests and lists over the places below a count: how every section says "the sum over", "any", "only where" and "for each".
+-- Sums, tests and lists over the places below a count: how every section says "the sum over", "any", "only
+-- where" and "for each".
 use Rattle.std.specs.Prelude.{ℕ, zero, suc, ◌+◌, Bool, false, cond, ◌||◌, List, [], ◌∷◌}
 
 -- f 0 + f 1 + .. + f (n - 1).

@@ -1,4 +1,5 @@
--- Sheets and months of our own for every refusal, at each limit and just past it, and the number that document 01 gives them.
+-- Sheets and months of our own for every refusal, at each limit and just past it, and the number that
+-- document 01 gives them.
 use Rattle.std.specs.Prelude.{ℕ, List, [], ◌∷◌, ◌++◌, replicate, ◌≡◌, refl}
 use Rattle.rules.specs.Range.{when}
 use Rattle.rules.specs.Units.{one}
@@ -7,7 +8,8 @@ use Rattle.rules.specs.Refusals.{figure_tests, sheet_tests, tests, applies, firs
 use Rattle.rules.specs.Samples.{producer, row, consumer, month, every, first_hours, Figure, figure, wrong}
 use Rattle.rules.specs.Open.{settlement, layout}
 
--- A header alone, 14 bytes: length field (its last byte), version, days, weekday, the four bytes of holidays, P, R, C.
+-- A header alone, 14 bytes: length field (its last byte), version, days, weekday, the four bytes of holidays,
+-- P, R, C.
 abbrev header : ℕ → ℕ → ℕ → ℕ → List ℕ → ℕ → ℕ → ℕ → List ℕ
 header length version days weekday holidays P R C =
     (0 ∷ 0 ∷ 0 ∷ length ∷ version ∷ days ∷ weekday ∷ []) ++ holidays ++ (P ∷ R ∷ C ∷ [])
@@ -55,7 +57,8 @@ form_cases =
     ∷ figure (refusal (header 14 4 27 1 no_holiday 7 0 0) 0) 3
     ∷ figure (refusal (header 14 1 27 1 no_holiday 7 0 0) 0) 4
     ∷ figure (refusal (header 14 1 28 1 no_holiday 7 0 0) 0) 5
-    -- a buffer one byte short of the result's 21 + 25, and z too low; then z alone. 12 applies to the first too, and there is no 13
+    -- a buffer one byte short of the result's 21 + 25, and z too low; then z alone. 12 applies to the first
+    -- too, and there is no 13
     ∷ figure (refusal (low_z 1) 45) 7
     ∷ figure (refusal (low_z 1) 46) 12
     ∷ figure (when (applies 12 (tests (low_z 1) 45)) 1) 1
@@ -67,7 +70,8 @@ form_cases =
     ∷ figure (first_of (sheet_tests (low_z 4))) 3
     ∷ []
 
--- Power at the ceiling in all hours of a month of 28 days (H 672); past its end it is above, which does not count.
+-- Power at the ceiling in all hours of a month of 28 days (H 672); past its end it is above, which does not
+-- count.
 abbrev highest : ℕ → ℕ
 highest = first_hours 672 100000 (every 100001)
 

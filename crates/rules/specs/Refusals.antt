@@ -1,10 +1,37 @@
--- Refusals: the numbers 1 to 12 and 18 as tests in their order, each of the whole sheet, and the number of the first that applies.
--- [When a sheet is turned down, throughout; the number stands before each test]
-use Rattle.std.specs.Prelude.{ℕ, ◌/◌, ◌^◌, Bool, false, not, cond, ◌||◌, ◌&&◌, List, [], ◌∷◌, ◌++◌, length, leb, ltb, eqb}
+-- Refusals: the numbers 1 to 12 and 18 as tests in their order, each of the whole sheet, and the number of
+-- the first that applies. [When a sheet is turned down, throughout; the number stands before each test]
+use Rattle.std.specs.Prelude.{
+  ℕ,
+  ◌/◌,
+  ◌^◌,
+  Bool,
+  false,
+  not,
+  cond,
+  ◌||◌,
+  ◌&&◌,
+  List,
+  [],
+  ◌∷◌,
+  ◌++◌,
+  length,
+  leb,
+  ltb,
+  eqb,
+}
 use Rattle.rules.specs.Range.{any}
 use Rattle.rules.specs.Units.{tenths_ceiling, tiyn_ceiling, one}
 use Rattle.rules.specs.Month.{Header, Producer, Row, Consumer, Month, hours}
-use Rattle.rules.specs.Sheet.{Layout, header_width, length_field, version, header_of, layout_of, sheet_length, month_of}
+use Rattle.rules.specs.Sheet.{
+  Layout,
+  header_width,
+  length_field,
+  version,
+  header_of,
+  layout_of,
+  sheet_length,
+  month_of,
+}
 use Rattle.rules.specs.Result.{result_length}
 
 -- One of a list of tests holds.
@@ -73,7 +100,8 @@ high_row r = too_high r.volume
 unfoldable pub high_consumer : Consumer → Bool
 high_consumer c = one_of (too_high c.contract ∷ too_high c.peak ∷ [])
 
--- 10: a row names a producer or a consumer that the sheet does not have. The single buyer, 255, may always be named.
+-- 10: a row names a producer or a consumer that the sheet does not have. The single buyer, 255, may always be
+-- named.
 unfoldable pub bad_reference : Header → Row → Bool
 bad_reference h r =
     one_of

@@ -4,7 +4,8 @@ use Rattle.rules.specs.Units.{one}
 use Rattle.rules.specs.Month.{Producer, Row, Consumer, Month}
 use Rattle.rules.specs.Coefficients as Coefficients
 
--- Attested, deductible, own needs; hours without an upward bid, a downward bid, a plan; k3 and k6 to k10; working, possible, outside use.
+-- Attested, deductible, own needs; hours without an upward bid, a downward bid, a plan; k3 and k6 to k10;
+-- working, possible, outside use.
 abbrev pub producer : ℕ → ℕ → ℕ → ℕ → ℕ → ℕ → List ℕ → (ℕ → ℕ) → (ℕ → ℕ) → (ℕ → ℕ) → Producer
 producer attested deductible own_needs up down plan given working possible outside =
     record {
@@ -39,8 +40,9 @@ abbrev pub consumer : ℕ → ℕ → ℕ → ℕ → ℕ → ℕ → Consumer
 consumer contract peak supplier grid z price =
     record { contract = contract; peak = peak; supplier = supplier; grid = grid; z = z; price = price }
 
--- Days, weekday of day 1, holidays; the producers, rows (each told the month's days) and consumers. Past the last of each stands one that
--- no sum may count and no sheet may have: attested 10,000.1, volume 10,000.1, z 0.9.
+-- Days, weekday of day 1, holidays; the producers, rows (each told the month's days) and consumers. Past the
+-- last of each stands one that no sum may count and no sheet may have: attested 10,000.1, volume 10,000.1, z
+-- 0.9.
 unfoldable pub month : ℕ → ℕ → ℕ → List Producer → List (ℕ → Row) → List Consumer → Month
 month days weekday holidays ps rs cs =
     record {
@@ -58,7 +60,8 @@ month days weekday holidays ps rs cs =
       consumer = λ c. get_or cs c (consumer 1000 1000 0 0 9 1000);
     }
 
--- The same figure in every hour; one figure in an hour of each day and another in the rest; one figure in the first hours of the month.
+-- The same figure in every hour; one figure in an hour of each day and another in the rest; one figure in the
+-- first hours of the month.
 abbrev pub every : ℕ → ℕ → ℕ
 every v i = v
 

@@ -1,10 +1,13 @@
--- The sheet: where each figure of a month stands. No other definition knows a place in the sheet. [Units and the sheet, throughout]
+-- The sheet: where each figure of a month stands. No other definition knows a place in the sheet. [Units and
+-- the sheet, throughout]
 use Rattle.std.specs.Prelude.{ℕ, zero, suc, ◌+◌, ◌-◌, ◌*◌, Bool, cond, List, [], ◌∷◌, ◌++◌, ltb}
 use Rattle.rules.specs.Month.{Header, Producer, Row, Consumer, Month, hours}
 use Rattle.rules.specs.Fields.{big_endian, bytes_from, bytes_of, field, laid, joined, over_at}
--- The version and the header: the struct Layout of src/lib.rt. Widths and places go by it, and nothing else does.
+-- The version and the header: the struct Layout of src/lib.rt. Widths and places go by it, and nothing else
+-- does.
 pub use Rattle.rules.specs.declared.Layout.{Layout}
--- A producer's stated figures, a series of powers, and the series of its hours: the structs Stated, Series and HourSeries of src/lib.rt.
+-- A producer's stated figures, a series of powers, and the series of its hours: the structs Stated, Series
+-- and HourSeries of src/lib.rt.
 pub use Rattle.rules.specs.declared.Stated.{Stated}
 pub use Rattle.rules.specs.declared.Series.{Series}
 pub use Rattle.rules.specs.declared.HourSeries.{HourSeries}
@@ -90,7 +93,8 @@ abbrev pub peak_at : Layout → ℕ → ℕ
 peak_at l c = consumer_at l c + 4
 
 -- The length that version, month and counts ask for: the place past the last consumer.
--- (sheet_length_in_full, in laws/Sheet: 14 + P × (42 + 288 × days) + row_width × R + 15 × C; row_width_1 and row_width_2 there.)
+-- (sheet_length_in_full, in laws/Sheet: 14 + P × (42 + 288 × days) + row_width × R + 15 × C; row_width_1 and
+-- row_width_2 there.)
 unfoldable pub sheet_length : Layout → ℕ
 sheet_length l = consumer_at l l.header.consumers
 
@@ -120,8 +124,8 @@ series start step = record { start = start; step = step }
 abbrev pub triples : HourSeries
 triples = record { working = series 0 12; possible = series 4 12; outside = series 8 12 }
 
--- By column: the working powers of all hours, behind them the possible ones, behind these the outside uses, hour 0 of day 1 first in each.
--- [Requests, 7]
+-- By column: the working powers of all hours, behind them the possible ones, behind these the outside uses,
+-- hour 0 of day 1 first in each. [Requests, 7]
 abbrev pub columns : Header → HourSeries
 columns h = record { working = series 0 4; possible = series (96 * h.days) 4; outside = series (192 * h.days) 4 }
 
@@ -170,7 +174,8 @@ producer_under l s p =
 unfoldable pub day_at : Layout → List ℕ → ℕ → ℕ → ℕ
 day_at l s at otherwise = cond (states_days l) (big_endian 1 s at) otherwise
 
--- The row whose figures begin at a place. Its days follow the price; a row that states none covers the month. [Requests, 5]
+-- The row whose figures begin at a place. Its days follow the price; a row that states none covers the month.
+-- [Requests, 5]
 abbrev pub row_of : Layout → List ℕ → ℕ → Row
 row_of l s at =
     record {
@@ -194,7 +199,8 @@ consumer_of s at =
       price = big_endian 4 s (at + 11);
     }
 
--- The month with a layout's header, whose producers, rows and consumers stand in s where that layout puts them.
+-- The month with a layout's header, whose producers, rows and consumers stand in s where that layout puts
+-- them.
 abbrev pub month_under : Layout → List ℕ → Month
 month_under l s =
     record {
@@ -217,8 +223,8 @@ with_contracts l v (suc n) s = over_at (contract_at l n) (bytes_of 4 (v n)) (wit
 unfoldable pub with_peak : Layout → ℕ → ℕ → List ℕ → List ℕ
 with_peak l c peak s = over_at (peak_at l c) (bytes_of 4 peak) s
 
--- A sheet of version 1 written in version 2: it has two bytes more for each row, and behind each row's figures stand day 1 and the last day
--- of the month. [Requests, 5]
+-- A sheet of version 1 written in version 2: it has two bytes more for each row, and behind each row's
+-- figures stand day 1 and the last day of the month. [Requests, 5]
 unfoldable pub in_version_2 : List ℕ → List ℕ
 in_version_2 s =
     laid (field 4 (length_field s + 2 * (header_of s).rows) ∷ field 1 2 ∷ [])
@@ -226,11 +232,13 @@ in_version_2 s =
     ++ (joined (λ j. bytes_from s (row_at (layout_of s) j) 10 ++ (1 ∷ (header_of s).days ∷ [])) (header_of s).rows
     ++ bytes_from s (consumer_at (layout_of s) 0) (consumer_width (layout_of s) * (header_of s).consumers)))
 
--- The first n powers of a series one after the other, 4 bytes each, in the stretch that begins at a place. [Requests, 7]
+-- The first n powers of a series one after the other, 4 bytes each, in the stretch that begins at a place.
+-- [Requests, 7]
 unfoldable pub column : List ℕ → ℕ → ℕ → Series → List ℕ
 column s at n x = joined (λ i. bytes_from s (power_at at x i) 4) n
 
--- Producer p under a layout, its hours by column: its stated figures as they stand, then a column for each of its series. [Requests, 7]
+-- Producer p under a layout, its hours by column: its stated figures as they stand, then a column for each of
+-- its series. [Requests, 7]
 unfoldable pub in_columns : Layout → List ℕ → ℕ → List ℕ
 in_columns l s p =
     bytes_from s (producer_at l p) stated_width
@@ -238,7 +246,8 @@ in_columns l s p =
     ++ (column s (hours_at l p) (hours l.header) (hour_series l).possible
     ++ column s (hours_at l p) (hours l.header) (hour_series l).outside))
 
--- A sheet of version 2 written in version 3: as long as it was, each producer by column, all else as it stands. [Requests, 7]
+-- A sheet of version 2 written in version 3: as long as it was, each producer by column, all else as it
+-- stands. [Requests, 7]
 unfoldable pub rearranged : List ℕ → List ℕ
 rearranged s =
     laid (field 4 (length_field s) ∷ field 1 3 ∷ [])

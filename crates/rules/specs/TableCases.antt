@@ -12,8 +12,9 @@ unfoldable pub days_off : ℕ → ℕ → List ℕ
 days_off first zero = []
 days_off first (suc day) = days_off first day ++ cond (says first day) [] (suc day ∷ [])
 
--- The Saturdays and Sundays of seven months of 31 days, as printed calendars have them: March 2021 begins on a Monday, March 2022 on a
--- Tuesday, and of 2021 December on a Wednesday, July on a Thursday, January on a Friday, May on a Saturday, August on a Sunday.
+-- The Saturdays and Sundays of seven months of 31 days, as printed calendars have them: March 2021 begins on
+-- a Monday, March 2022 on a Tuesday, and of 2021 December on a Wednesday, July on a Thursday, January on a
+-- Friday, May on a Saturday, August on a Sunday.
 pub march_2021 : days_off 1 31 ≡ 6 ∷ 7 ∷ 13 ∷ 14 ∷ 20 ∷ 21 ∷ 27 ∷ 28 ∷ []
 unfolding settlement table days_off
 march_2021 = refl
@@ -46,7 +47,8 @@ august_2021 = refl
 abbrev entry : ℕ → ℕ → ℕ
 entry first day = when (says first day) 1
 
--- A header of so many days, first weekday and holidays; its control days by the table, 1 for each; whether the table has it.
+-- A header of so many days, first weekday and holidays; its control days by the table, 1 for each; whether
+-- the table has it.
 abbrev header : ℕ → ℕ → ℕ → Header
 header days first holidays = (month days first holidays [] [] []).header
 
@@ -58,9 +60,9 @@ has days first = when (in_table (header days first 0)) 1
 
 unfoldable pub table_cases : List Figure
 table_cases =
-    -- 28 days are four weeks, with 20 control weekdays; days 29 to 31 fall on the first weekday and the two after it: from Monday,
-    -- Tuesday and Wednesday all three count; from Thursday two, the third being a Saturday; from Friday the Friday alone; from Saturday the
-    -- Monday alone; from Sunday two
+    -- 28 days are four weeks, with 20 control weekdays; days 29 to 31 fall on the first weekday and the two
+    -- after it: from Monday, Tuesday and Wednesday all three count; from Thursday two, the third being a
+    -- Saturday; from Friday the Friday alone; from Saturday the Monday alone; from Sunday two
     figure (control (header 31 1 0)) 23
     ∷ figure (control (header 31 2 0)) 23
     ∷ figure (control (header 31 3 0)) 23
@@ -68,11 +70,13 @@ table_cases =
     ∷ figure (control (header 31 5 0)) 21
     ∷ figure (control (header 31 6 0)) 21
     ∷ figure (control (header 31 7 0)) 22
-    -- December 2021 begins on a Wednesday; the 1st, 16th and 17th are holidays, all on control weekdays: bits 1 + 32,768 + 65,536. 23 - 3
+    -- December 2021 begins on a Wednesday; the 1st, 16th and 17th are holidays, all on control weekdays: bits
+    -- 1 + 32,768 + 65,536. 23 - 3
     ∷ figure (control (header 31 3 98305)) 20
     -- a holiday on the 4th, a Saturday (bit 8), takes none away
     ∷ figure (control (header 31 3 98313)) 20
-    -- the 31st of a month that begins on a Thursday is 30 days, four weeks and two days, on: a Saturday; on a Wednesday: a Friday
+    -- the 31st of a month that begins on a Thursday is 30 days, four weeks and two days, on: a Saturday; on a
+    -- Wednesday: a Friday
     ∷ figure (weekday_on 4 30) 6
     ∷ figure (weekday_on 3 30) 5
     ∷ figure (entry 4 30) 0

@@ -1,6 +1,7 @@
--- Consumers under the text of 2015, figures of our own, worked out by hand from request 4: each edge from both sides, by the percent and by
--- its rounding, the zero rules, the halves, what the text does not know, the room, and a result byte by byte. Contract volumes and peaks
--- are in tenths of a megawatt, the excess in hundredths of a percent, factors in tenths.
+-- Consumers under the text of 2015, figures of our own, worked out by hand from request 4: each edge from
+-- both sides, by the percent and by its rounding, the zero rules, the halves, what the text does not know,
+-- the room, and a result byte by byte. Contract volumes and peaks are in tenths of a megawatt, the excess in
+-- hundredths of a percent, factors in tenths.
 use Rattle.std.specs.Prelude.{ℕ, List, [], ◌∷◌, ◌++◌, replicate, ◌≡◌, refl}
 use Rattle.rules.specs.Month.{Month}
 use Rattle.rules.specs.Outcome.{refused, written}
@@ -15,7 +16,8 @@ excess_figures =
     -- 1,050.0 over 1,000.0 is 5.00 percent; 0.1 more is 5.01
     figure (excess_of 10000 10500) 500
     ∷ figure (excess_of 10000 10501) 501
-    -- 1,251 / 25,000 = 5.004 percent; 1,001 / 20,000 = 5.005 percent, a half, upward; 999 / 20,000 = 4.995 percent, which is 5.00 too
+    -- 1,251 / 25,000 = 5.004 percent; 1,001 / 20,000 = 5.005 percent, a half, upward; 999 / 20,000 = 4.995
+    -- percent, which is 5.00 too
     ∷ figure (excess_of 25000 26251) 500
     ∷ figure (excess_of 20000 21001) 501
     ∷ figure (excess_of 20000 20999) 500
@@ -43,7 +45,8 @@ factor_figures =
     ∷ figure (factor_for 10000 11001) 12
     ∷ figure (factor_for 10000 12000) 12
     ∷ figure (factor_for 10000 12001) 15
-    -- by the rounding of the percent: 5.004 (1,251 / 25,000) and 5.005 (1,001 / 20,000); 10.004 and 10.005; 20.004 and 20.005
+    -- by the rounding of the percent: 5.004 (1,251 / 25,000) and 5.005 (1,001 / 20,000); 10.004 and 10.005;
+    -- 20.004 and 20.005
     ∷ figure (factor_for 25000 26251) 10
     ∷ figure (factor_for 20000 21001) 11
     ∷ figure (factor_for 25000 27501) 11
@@ -69,7 +72,8 @@ volume_figures =
     ∷ figure (volume_for 1000 1201) 1500
     -- the peak below the contract volume: the contract volume, not the peak
     ∷ figure (volume_for 1000 5) 1000
-    -- a half upward: 1.5 and a peak of 1.6, 6.67 percent, is 1.5 × 1.1 = 1.65; 0.1 and a peak of 0.2, 100 percent, is 0.1 × 1.5 = 0.15
+    -- a half upward: 1.5 and a peak of 1.6, 6.67 percent, is 1.5 × 1.1 = 1.65; 0.1 and a peak of 0.2, 100
+    -- percent, is 0.1 × 1.5 = 0.15
     ∷ figure (volume_for 15 16) 17
     ∷ figure (volume_for 1 2) 2
     -- nearest: 1.4 and 1.5, 7.14 percent, is 1.54; 1.6 and 1.7, 6.25 percent, is 1.76
@@ -78,14 +82,16 @@ volume_figures =
     -- a contract of 0: 0 × 1.0 and 0 × 1.5
     ∷ figure (volume_for 0 0) 0
     ∷ figure (volume_for 0 1) 0
-    -- at the ceiling of a peak, 10,000.0: over 10,000.0 no excess; over 8,333.3, 16,667 / 83,333 = 20.0005 percent, × 1.2 = 9,999.96; over
-    -- 8,332.9, 16,671 / 83,329 = 20.0062 percent and so 20.01, × 1.5 = 12,499.35: no volume is larger
+    -- at the ceiling of a peak, 10,000.0: over 10,000.0 no excess; over 8,333.3, 16,667 / 83,333 = 20.0005
+    -- percent, × 1.2 = 9,999.96; over 8,332.9, 16,671 / 83,329 = 20.0062 percent and so 20.01, × 1.5 =
+    -- 12,499.35: no volume is larger
     ∷ figure (volume_for 100000 100000) 100000
     ∷ figure (volume_for 83333 100000) 100000
     ∷ figure (volume_for 83329 100000) 124994
     ∷ []
 
--- Three consumers of a month with one producer. The second has a credit of 30.0 from a bilateral row; the third has mining days and z.
+-- Three consumers of a month with one producer. The second has a credit of 30.0 from a bilateral row; the
+-- third has mining days and z.
 unfoldable pub old_month : Month
 old_month =
     month 30 1 0
@@ -99,11 +105,13 @@ charge_figures =
     figure (factor_2015 old_month 0) 11
     ∷ figure (volume_2015 old_month 0) 1100
     ∷ figure (charge_2015 old_month 0) 11550
-    -- 15.00 percent whatever the credit (115.0 - 30.0 would be no excess): 1.2, 120.0, and 120.0 × 200 = 24,000
+    -- 15.00 percent whatever the credit (115.0 - 30.0 would be no excess): 1.2, 120.0, and 120.0 × 200 =
+    -- 24,000
     ∷ figure (factor_2015 old_month 1) 12
     ∷ figure (volume_2015 old_month 1) 1200
     ∷ figure (charge_2015 old_month 1) 24000
-    -- 6.67 percent whatever mining days and z are: 1.1, 1.65 and so 1.7; 1.7 × 5 = 8.5, a half, upward (of 1.65 it would be 8.25)
+    -- 6.67 percent whatever mining days and z are: 1.1, 1.65 and so 1.7; 1.7 × 5 = 8.5, a half, upward (of
+    -- 1.65 it would be 8.25)
     ∷ figure (factor_2015 old_month 2) 11
     ∷ figure (volume_2015 old_month 2) 17
     ∷ figure (charge_2015 old_month 2) 9
@@ -114,17 +122,18 @@ pub text_2015_cases : wrong (excess_figures ++ factor_figures ++ volume_figures 
 unfolding settlement text_2015 excess_figures factor_figures volume_figures old_month charge_figures
 text_2015_cases = refl
 
--- A sheet of 28 days from a Monday on, with no producer, no row and two consumers, 14 + 2 × 15 = 44 bytes: its length field, and the z of
--- the second. Contract volumes 100.0 (1,000 = 3 × 256 + 232) and 0.3, peaks 106.0 (1,060 = 4 × 256 + 36) and 0.4, prices 5 and 100,000
--- tiyn (100,000 = 65,536 + 134 × 256 + 160).
+-- A sheet of 28 days from a Monday on, with no producer, no row and two consumers, 14 + 2 × 15 = 44 bytes:
+-- its length field, and the z of the second. Contract volumes 100.0 (1,000 = 3 × 256 + 232) and 0.3, peaks
+-- 106.0 (1,060 = 4 × 256 + 36) and 0.4, prices 5 and 100,000 tiyn (100,000 = 65,536 + 134 × 256 + 160).
 abbrev two_consumers : ℕ → ℕ → List ℕ
 two_consumers length z =
     (0 ∷ 0 ∷ 0 ∷ length ∷ 1 ∷ 28 ∷ 1 ∷ 0 ∷ 0 ∷ 0 ∷ 0 ∷ 0 ∷ 0 ∷ 2 ∷ [])
     ++ (0 ∷ 0 ∷ 3 ∷ 232 ∷ 0 ∷ 0 ∷ 4 ∷ 36 ∷ 0 ∷ 0 ∷ 10 ∷ 0 ∷ 0 ∷ 0 ∷ 5 ∷ [])
     ++ (0 ∷ 0 ∷ 0 ∷ 3 ∷ 0 ∷ 0 ∷ 0 ∷ 4 ∷ 0 ∷ 0 ∷ z ∷ 0 ∷ 1 ∷ 134 ∷ 160 ∷ [])
 
--- Its result, 4 + 2 × 17 = 38 bytes. The first: 6.00 percent, 1.1, 110.0 (1,100 = 4 × 256 + 76) and 550 tiyn (2 × 256 + 38). The second:
--- 33.33 percent, 1.5, 0.45 and so 0.5, and 50,000 tiyn (195 × 256 + 80). The settlement's own result would be 21 + 2 × 25 = 71 bytes.
+-- Its result, 4 + 2 × 17 = 38 bytes. The first: 6.00 percent, 1.1, 110.0 (1,100 = 4 × 256 + 76) and 550 tiyn
+-- (2 × 256 + 38). The second: 33.33 percent, 1.5, 0.45 and so 0.5, and 50,000 tiyn (195 × 256 + 80). The
+-- settlement's own result would be 21 + 2 × 25 = 71 bytes.
 abbrev two_results : List ℕ
 two_results =
     (0 ∷ 0 ∷ 0 ∷ 38 ∷ [])

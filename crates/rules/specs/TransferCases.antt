@@ -1,11 +1,19 @@
--- Lists of transfers of our own, worked out by hand from request 1: each number at its limit and just past it, in its order, and the
--- contract volumes that a list leaves. Figures are in tenths of a megawatt.
+-- Lists of transfers of our own, worked out by hand from request 1: each number at its limit and just past
+-- it, in its order, and the contract volumes that a list leaves. Figures are in tenths of a megawatt.
 use Rattle.std.specs.Prelude.{ℕ, List, [], ◌∷◌, ◌++◌, get_or, replicate, ◌≡◌, refl}
 use Rattle.rules.specs.Month.{Consumer}
 use Rattle.rules.specs.Refusals.{first_of}
 use Rattle.rules.specs.TransferList.{entries}
 use Rattle.rules.specs.Outcome.{refused, written}
-use Rattle.rules.specs.Transfers.{after_entries, list_tests, turn_tests, transfer_refusal, transfer_outcome, transferred, with_volumes}
+use Rattle.rules.specs.Transfers.{
+  after_entries,
+  list_tests,
+  turn_tests,
+  transfer_refusal,
+  transfer_outcome,
+  transferred,
+  with_volumes,
+}
 use Rattle.rules.specs.Samples.{consumer, month, Figure, figure, wrong}
 use Rattle.rules.specs.Open.{settlement, layout, transfers}
 
@@ -13,8 +21,8 @@ use Rattle.rules.specs.Open.{settlement, layout, transfers}
 abbrev consumer_bytes : List ℕ → ℕ → List ℕ
 consumer_bytes contract z = contract ++ replicate 6 0 ++ (z ∷ 0 ∷ 0 ∷ 0 ∷ 0 ∷ [])
 
--- A sheet of 28 days with no producer, no row and three consumers, 14 + 3 × 15 = 59 bytes: its version, three contract volumes, the z
--- of the last.
+-- A sheet of 28 days with no producer, no row and three consumers, 14 + 3 × 15 = 59 bytes: its version, three
+-- contract volumes, the z of the last.
 abbrev three_consumers : ℕ → List ℕ → List ℕ → List ℕ → ℕ → List ℕ
 three_consumers version a b c z =
     (0 ∷ 0 ∷ 0 ∷ 59 ∷ version ∷ 28 ∷ 1 ∷ 0 ∷ 0 ∷ 0 ∷ 0 ∷ 0 ∷ 0 ∷ 3 ∷ [])
@@ -22,11 +30,13 @@ three_consumers version a b c z =
     ++ consumer_bytes b 10
     ++ consumer_bytes c z
 
--- Contract volumes of 100.0 (1,000 = 3 × 256 + 232), 50.0 (500 = 256 + 244) and 9,900.0 (99,000 = 65,536 + 130 × 256 + 184).
+-- Contract volumes of 100.0 (1,000 = 3 × 256 + 232), 50.0 (500 = 256 + 244) and 9,900.0 (99,000 = 65,536 +
+-- 130 × 256 + 184).
 abbrev plain : List ℕ
 plain = three_consumers 1 (0 ∷ 0 ∷ 3 ∷ 232 ∷ []) (0 ∷ 0 ∷ 1 ∷ 244 ∷ []) (0 ∷ 1 ∷ 130 ∷ 184 ∷ []) 10
 
--- A list: the last byte of its length field, its version, its entries. An entry: day, giver, taker, the amount's last two bytes.
+-- A list: the last byte of its length field, its version, its entries. An entry: day, giver, taker, the
+-- amount's last two bytes.
 abbrev list_of : ℕ → ℕ → List ℕ → List ℕ
 list_of length version rest = (0 ∷ 0 ∷ 0 ∷ length ∷ version ∷ []) ++ rest
 
@@ -40,7 +50,8 @@ one a = list_of 12 1 a
 abbrev two : List ℕ → List ℕ → List ℕ
 two a b = list_of 19 1 (a ++ b)
 
--- A list by itself, for those three consumers: its number, and a consumer's contract volume after its entries.
+-- A list by itself, for those three consumers: its number, and a consumer's contract volume after its
+-- entries.
 abbrev volumes : ℕ → ℕ
 volumes c = get_or (1000 ∷ 500 ∷ 99000 ∷ []) c 0
 
@@ -81,8 +92,8 @@ list_cases =
     -- all that consumer 1 has, 50.0, and 0.1 more
     ∷ figure (number (one (filed 1 1 0 1 244))) 0
     ∷ figure (number (one (filed 1 1 0 1 245))) 15
-    -- 100.0 brings consumer 2 to exactly 10,000.0; 100.1 (1,001) is one too much for consumer 0 as well. Consumer 0 first gets 0.1 from
-    -- consumer 1 and then has 100.1, which brings consumer 2 to 10,000.1
+    -- 100.0 brings consumer 2 to exactly 10,000.0; 100.1 (1,001) is one too much for consumer 0 as well.
+    -- Consumer 0 first gets 0.1 from consumer 1 and then has 100.1, which brings consumer 2 to 10,000.1
     ∷ figure (number (one (filed 1 0 2 3 232))) 0
     ∷ figure (number (one (filed 1 0 2 3 233))) 15
     ∷ figure (number (two (filed 1 1 0 0 1) (filed 1 0 2 3 232))) 0
@@ -91,21 +102,24 @@ list_cases =
     ∷ figure (number (one (1 ∷ 2 ∷ 0 ∷ 1 ∷ 0 ∷ 0 ∷ 0 ∷ []))) 15
     -- consumer 1 gives all it has; 0.1 more is refused at its turn, though it had 50.0 before the list
     ∷ figure (number (two (filed 1 1 0 1 244) (filed 1 1 2 0 1))) 15
-    -- consumer 2 would come above 10,000.0, though it gives some away afterwards; in the other order it does not
+    -- consumer 2 would come above 10,000.0, though it gives some away afterwards; in the other order it does
+    -- not
     ∷ figure (number (list_of 26 1 (filed 1 0 2 3 232 ++ filed 1 1 2 0 1 ++ filed 1 2 0 0 1))) 15
     ∷ figure (number (list_of 26 1 (filed 1 2 0 0 1 ++ filed 1 0 2 3 232 ++ filed 1 1 2 0 1))) 0
-    -- the order of the numbers: a late entry and one past the month's days behind it; one that asks too much and a late one behind it
+    -- the order of the numbers: a late entry and one past the month's days behind it; one that asks too much
+    -- and a late one behind it
     ∷ figure (number (two (filed 21 0 1 0 1) (filed 0 0 1 0 1))) 13
     ∷ figure (number (two (filed 1 1 0 1 245) (filed 21 0 1 0 1))) 14
-    -- with a sheet: no whole front; the last order again; then the sheet's numbers come first (z 0.9; version 4)
+    -- with a sheet: no whole front; the last order again; then the sheet's numbers come first (z 0.9; version
+    -- 4)
     ∷ figure (transfer_refusal plain []) 13
     ∷ figure (transfer_refusal plain (two (filed 1 1 0 1 245) (filed 21 0 1 0 1))) 14
     ∷ figure (transfer_refusal (three_consumers 1 (0 ∷ 0 ∷ 0 ∷ 0 ∷ []) (0 ∷ 0 ∷ 0 ∷ 0 ∷ []) (0 ∷ 0 ∷ 0 ∷ 0 ∷ []) 9) []) 12
     ∷ figure (transfer_refusal (three_consumers 4 (0 ∷ 0 ∷ 0 ∷ 0 ∷ []) (0 ∷ 0 ∷ 0 ∷ 0 ∷ []) (0 ∷ 0 ∷ 0 ∷ 0 ∷ []) 10) []) 3
     ∷ []
 
--- A chain: consumer 0 gives consumer 1 all its 100.0, and consumer 1, which had 50.0 and now has 150.0, gives consumer 2 100.0. Without
--- the first entry the second would be refused.
+-- A chain: consumer 0 gives consumer 1 all its 100.0, and consumer 1, which had 50.0 and now has 150.0, gives
+-- consumer 2 100.0. Without the first entry the second would be refused.
 abbrev chain : List ℕ
 chain = two (filed 3 0 1 3 232) (filed 20 1 2 3 232)
 
@@ -155,8 +169,10 @@ pub volume_cases_hold : wrong volume_cases ≡ []
 unfolding settlement layout transfers volume_cases
 volume_cases_hold = refl
 
--- The whole sheet after the chain: three contract volumes were written (100,000 = 65,536 + 134 × 256 + 160), no other byte.
-pub chain_applied : transferred plain chain ≡ three_consumers 1 (0 ∷ 0 ∷ 0 ∷ 0 ∷ []) (0 ∷ 0 ∷ 1 ∷ 244 ∷ []) (0 ∷ 1 ∷ 134 ∷ 160 ∷ []) 10
+-- The whole sheet after the chain: three contract volumes were written (100,000 = 65,536 + 134 × 256 + 160),
+-- no other byte.
+pub chain_applied : transferred plain chain
+    ≡ three_consumers 1 (0 ∷ 0 ∷ 0 ∷ 0 ∷ []) (0 ∷ 0 ∷ 1 ∷ 244 ∷ []) (0 ∷ 1 ∷ 134 ∷ 160 ∷ []) 10
 unfolding settlement layout transfers
 chain_applied = refl
 

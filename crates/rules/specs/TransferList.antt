@@ -1,4 +1,5 @@
--- The list of transfers: where each figure of it stands. No other definition knows a place in the list. [Requests, 1]
+-- The list of transfers: where each figure of it stands. No other definition knows a place in the list.
+-- [Requests, 1]
 use Rattle.std.specs.Prelude.{ℕ, ◌+◌, ◌-◌, ◌*◌, ◌/◌, List}
 use Rattle.rules.specs.Fields.{big_endian}
 -- An entry: the struct Transfer of src/lib.rt.
@@ -27,7 +28,12 @@ entries l = (list_length l - list_front) / entry_width
 -- The entry whose figures begin at a place.
 abbrev pub entry_of : List ℕ → ℕ → Transfer
 entry_of l at =
-    record { day = big_endian 1 l at; giver = big_endian 1 l (at + 1); taker = big_endian 1 l (at + 2); amount = big_endian 4 l (at + 3) }
+    record {
+      day = big_endian 1 l at;
+      giver = big_endian 1 l (at + 1);
+      taker = big_endian 1 l (at + 2);
+      amount = big_endian 4 l (at + 3);
+    }
 
 -- Entry i.
 unfoldable pub entry : List ℕ → ℕ → Transfer

@@ -1,12 +1,38 @@
--- Transfers of contract volume between consumers: a list, applied to the contract volumes in a sheet. [Requests, 1, throughout; p. 53; a
--- number stands before each of its tests]
-use Rattle.std.specs.Prelude.{ℕ, zero, suc, ◌+◌, ◌-◌, ◌%◌, Bool, not, cond, List, [], ◌∷◌, ◌++◌, length, leb, ltb, eqb}
+-- Transfers of contract volume between consumers: a list, applied to the contract volumes in a sheet.
+-- [Requests, 1, throughout; p. 53; a number stands before each of its tests]
+use Rattle.std.specs.Prelude.{
+  ℕ,
+  zero,
+  suc,
+  ◌+◌,
+  ◌-◌,
+  ◌%◌,
+  Bool,
+  not,
+  cond,
+  List,
+  [],
+  ◌∷◌,
+  ◌++◌,
+  length,
+  leb,
+  ltb,
+  eqb,
+}
 use Rattle.rules.specs.Range.{any}
 use Rattle.rules.specs.Month.{Month, with_consumers}
 use Rattle.rules.specs.Sheet.{header_of, layout_of, month_of, with_contracts}
 use Rattle.rules.specs.Refusals.{one_of, too_high, Test, test, sheet_tests, first_of}
 use Rattle.rules.specs.Outcome.{Outcome, answered, lent_after}
-use Rattle.rules.specs.TransferList.{Transfer, list_front, entry_width, list_length, list_version, entries, entry}
+use Rattle.rules.specs.TransferList.{
+  Transfer,
+  list_front,
+  entry_width,
+  list_length,
+  list_version,
+  entries,
+  entry,
+}
 
 -- The last day of the month before on which an entry may be filed.
 abbrev pub last_filing_day : ℕ
@@ -23,7 +49,8 @@ bad_entry consumers t =
     ∷ eqb t.giver t.taker
     ∷ [])
 
--- 13, before the entries: no whole front; a length field that is wrong about the bytes, or ends inside an entry; another version.
+-- 13, before the entries: no whole front; a length field that is wrong about the bytes, or ends inside an
+-- entry; another version.
 unfoldable pub bad_front : List ℕ → Bool
 bad_front l =
     one_of
@@ -75,7 +102,8 @@ contracts m c = (m.consumer c).contract
 
 -- All numbers in their order: the sheet's own, all but 7, and then the list's.
 unfoldable pub transfer_tests : List ℕ → List ℕ → List Test
-transfer_tests s l = sheet_tests s ++ (list_tests (header_of s).consumers l ++ turn_tests (contracts (month_of s)) l)
+transfer_tests s l =
+    sheet_tests s ++ (list_tests (header_of s).consumers l ++ turn_tests (contracts (month_of s)) l)
 
 -- The number that a sheet and a list are refused with, 0 where the list is applied.
 unfoldable pub transfer_refusal : List ℕ → List ℕ → ℕ

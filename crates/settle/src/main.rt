@@ -6,5 +6,5 @@ use reading::read_full;
 fn main(rt: HostRuntime) {
     let mut sheet = [0u8; 65536];
     let length = read_full(&mut rt.stdin(), &mut sheet);
-    listing::list(&rt, &sheet[..length]);
+    let _ = listing::list(&rt, &sheet[..length]);
 }

@@ -1,4 +1,5 @@
-// Reads a sheet from standard input, at most 65,536 bytes, and prints its consumers' listing under the text of 2015.
+// Reads a sheet from standard input, at most 65,536 bytes, and prints its consumers' listing under the text
+// of 2015.
 #![tactic(auto)]
 
 use reading::read_full;
@@ -6,5 +7,5 @@ use reading::read_full;
 fn main(rt: HostRuntime) {
     let mut sheet = [0u8; 65536];
     let length = read_full(&mut rt.stdin(), &mut sheet);
-    listing::list_2015(&rt, &sheet[..length]);
+    let _ = listing::list_2015(&rt, &sheet[..length]);
 }

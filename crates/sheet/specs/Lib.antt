@@ -1,1 +1,2 @@
+pub mod Month
 pub mod Whole

@@ -4,7 +4,19 @@ use Rattle.rules.specs.declared.Layout.{Layout}
 use Rattle.rules.specs.declared.Stated.{Stated}
 use Rattle.rules.specs.declared.Row.{Row}
 use Rattle.rules.specs.declared.Consumer.{Consumer}
-use Rattle.rules.specs.Sheet.{stated_width, hours_width, row_width, consumer_width, producer_at, hours_at, row_at, consumer_at, stated_of, row_of, consumer_of}
+use Rattle.rules.specs.Sheet.{
+  stated_width,
+  hours_width,
+  row_width,
+  consumer_width,
+  producer_at,
+  hours_at,
+  row_at,
+  consumer_at,
+  stated_of,
+  row_of,
+  consumer_of,
+}
 use Rattle.rules.specs.Outcome.{Stretch}
 
 -- Nothing stated.
@@ -27,7 +39,8 @@ none_stated =
 
 -- The stated figures of producer p.
 unfoldable pub stated_in : Layout → List ℕ → ℕ → Stated
-stated_in l s p = cond (ltb (length s) (producer_at l p + stated_width)) none_stated (stated_of s (producer_at l p))
+stated_in l s p =
+    cond (ltb (length s) (producer_at l p + stated_width)) none_stated (stated_of s (producer_at l p))
 
 -- The stretch of producer p's hours in a sheet of so many bytes; an empty one stands at place 0.
 unfoldable pub stretch_in : Layout → ℕ → ℕ → Stretch
@@ -50,4 +63,5 @@ no_consumer = record { contract = 0; peak = 0; supplier = 0; grid = 0; z = 0; pr
 
 -- Consumer c.
 unfoldable pub consumer_in : Layout → List ℕ → ℕ → Consumer
-consumer_in l s c = cond (ltb (length s) (consumer_at l c + consumer_width l)) no_consumer (consumer_of s (consumer_at l c))
+consumer_in l s c =
+    cond (ltb (length s) (consumer_at l c + consumer_width l)) no_consumer (consumer_of s (consumer_at l c))

@@ -1,15 +1,20 @@
-// What a sheet says in its version, its header, its producers, its rows and its consumers. A record that is not whole in the sheet reads as
-// nothing.
+// What a sheet says in its version, its header, its producers, its rows and its consumers. A record that is
+// not whole in the sheet reads as nothing: so the readers below take any bytes with a layout, and those of a
+// Sheet take whole ones.
 #![tactic(auto)]
 
 ghost use Rattle.std.specs.Prelude.{◌≡◌, ◌+◌, length};
 ghost use Rattle.rules.specs.Sheet.{header_of, layout_of, day_at};
 ghost use Rattle.rules.specs.Outcome.{within};
-ghost use Rattle.sheet.specs.Whole.{none_stated, no_row, no_consumer, stated_in, stretch_in, row_in, consumer_in};
+ghost use Rattle.sheet.specs.Whole.{stated_in, stretch_in, row_in, consumer_in};
 
 use fields::{byte, half, word};
 use places::{consumer_at, hours_at, hours_width, producer_at, row_at, row_width, states_days};
 use rules::{Consumer, Header, Layout, Row, Stated};
+
+mod records;
+
+pub use records::Sheet;
 
 // The header's month and counts.
 pub fn header(s: &[u8]) -> Header
@@ -26,6 +31,7 @@ pub fn header(s: &[u8]) -> Header
 }
 
 // The version and the header.
+#[tactic(auto, unfolding(rules::specs::Sheet::version))]
 pub fn layout(s: &[u8]) -> Layout
     ensures { result ≡ layout_of s.now }
 {
@@ -37,24 +43,20 @@ pub fn layout(s: &[u8]) -> Layout
 }
 
 // Nothing stated.
-fn none_stated() -> Stated
-    ensures { result ≡ none_stated }
-{
-    Stated {
-        attested: 0,
-        deductible: 0,
-        needs: 0,
-        upward: 0,
-        downward: 0,
-        plan: 0,
-        k3: 0,
-        k6: 0,
-        k7: 0,
-        k8: 0,
-        k9: 0,
-        k10: 0,
-    }
-}
+const NONE_STATED: Stated = Stated {
+    attested: 0,
+    deductible: 0,
+    needs: 0,
+    upward: 0,
+    downward: 0,
+    plan: 0,
+    k3: 0,
+    k6: 0,
+    k7: 0,
+    k8: 0,
+    k9: 0,
+    k10: 0,
+};
 
 // Producer p's stated figures. One part of the sheet is lent for them, so that each is one load.
 pub fn producer(s: &[u8], layout: Layout, p: u8) -> Stated
@@ -63,7 +65,7 @@ pub fn producer(s: &[u8], layout: Layout, p: u8) -> Stated
     let at = producer_at(layout, p);
     let stated_end = at + 42;
     if s.len() < stated_end {
-        return none_stated();
+        return NONE_STATED;
     }
     let part = &s[at..stated_end];
     Stated {
@@ -82,10 +84,12 @@ pub fn producer(s: &[u8], layout: Layout, p: u8) -> Stated
     }
 }
 
-// The stretch of producer p's hours: that part of the lent sheet, and no copy. Empty where the sheet ends before it does.
+// The stretch of producer p's hours: that part of the lent sheet, and no copy. Empty where the sheet ends
+// before it does.
 pub fn stretch(s: &[u8], layout: Layout, p: u8) -> &[u8]
     ensures part { result.now ≡ within (stretch_in layout (length s.now) p) s.now }
-    ensures place { (result.ref_ptr.0 ≡ s.entry.ref_ptr.0) × (result.ref_ptr.1 ≡ (stretch_in layout (length s.now) p).place + s.entry.ref_ptr.1) }
+    ensures place { (result.ref_ptr.0 ≡ s.entry.ref_ptr.0)
+        × (result.ref_ptr.1 ≡ (stretch_in layout (length s.now) p).place + s.entry.ref_ptr.1) }
 {
     let at = hours_at(layout, p);
     let end = at + hours_width(layout.header);
@@ -96,20 +100,17 @@ pub fn stretch(s: &[u8], layout: Layout, p: u8) -> &[u8]
 }
 
 // No row.
-fn no_row() -> Row
-    ensures { result ≡ no_row }
-{
-    Row {
-        producer: 0,
-        consumer: 0,
-        volume: 0,
-        price: 0,
-        first: 0,
-        last: 0,
-    }
-}
+const NO_ROW: Row = Row {
+    producer: 0,
+    consumer: 0,
+    volume: 0,
+    price: 0,
+    first: 0,
+    last: 0,
+};
 
 // The day that stands at a place of a row's part; where rows state no days, another.
+#[tactic(auto, unfolding(rules::specs::Sheet::day_at))]
 fn day_at(part: &[u8], layout: Layout, at: usize, otherwise: u8) -> u8
     ensures { result ≡ day_at layout part.now at otherwise }
 {
@@ -127,7 +128,7 @@ pub fn row(s: &[u8], layout: Layout, j: u8) -> Row
     let at = row_at(layout, j);
     let row_end = at + row_width(layout);
     if s.len() < row_end {
-        return no_row();
+        return NO_ROW;
     }
     let part = &s[at..row_end];
     Row {
@@ -141,18 +142,14 @@ pub fn row(s: &[u8], layout: Layout, j: u8) -> Row
 }
 
 // No consumer.
-fn no_consumer() -> Consumer
-    ensures { result ≡ no_consumer }
-{
-    Consumer {
-        contract: 0,
-        peak: 0,
-        supplier: 0,
-        grid: 0,
-        z: 0,
-        price: 0,
-    }
-}
+const NO_CONSUMER: Consumer = Consumer {
+    contract: 0,
+    peak: 0,
+    supplier: 0,
+    grid: 0,
+    z: 0,
+    price: 0,
+};
 
 // Consumer c. One part of the sheet is lent for its six figures, so that each of them is one load.
 pub fn consumer(s: &[u8], layout: Layout, c: u8) -> Consumer
@@ -161,7 +158,7 @@ pub fn consumer(s: &[u8], layout: Layout, c: u8) -> Consumer
     let at = consumer_at(layout, c);
     let consumer_end = at + 15;
     if s.len() < consumer_end {
-        return no_consumer();
+        return NO_CONSUMER;
     }
     let part = &s[at..consumer_end];
     Consumer {

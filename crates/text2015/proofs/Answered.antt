@@ -1,47 +1,67 @@
 -- What the entry answers and leaves. Assumes nothing.
-use mathlib.Core.Path.{◌≡◌, sym, ap, ◌∙◌}
+use mathlib.Core.Path.{◌≡◌, refl, sym, ap, ◌∙◌}
 use mathlib.Core.List.{List}
 use Prim.Native.Nat.{ℕ, ◌≤◌}
-use native.Mathlib.Nat.{le_of_eq}
+use native.Mathlib.Omega.{arith}
 use lib.ListN.{length}
 use Rattle.rules.specs.declared.Layout.{Layout}
+use Rattle.rules.specs.declared.Refusal.{Refusal}
 use Rattle.rules.specs.Fields.{over}
-use Rattle.rules.specs.Sheet.{header_of, layout_of, sheet_length, month_of, month_under}
+use Rattle.rules.specs.Sheet.{header_of, layout_of, month_under}
 use Rattle.rules.specs.Limits.{MonthLimits, LimitsFor}
 use Rattle.rules.specs.Refusals.{tests_for, first_of}
+use Rattle.rules.specs.Said.{number_of}
 use Rattle.rules.specs.Outcome.{refused, written}
 use Rattle.rules.specs.Result2015.{length_2015, result_2015}
 use Rattle.rules.specs.Outcome2015.{tests_2015, refusal_2015, outcome_2015, buffer_after_2015}
 use Rattle.laws.proofs.Refusals.{limits_for}
-use Rattle.laws.proofs.Answers as Answers
+use Rattle.laws.proofs.Answers.{says_refused, says_written, kept, is_changed}
+use Rattle.refusals_form.proofs.Refused.{from_one}
 
--- The layout, the count and the number that the entry works with.
-module _ (s out : List ℕ) {layout : Layout} {count n : ℕ} (el : layout ≡ layout_of s) (ec : count ≡ length_2015 layout.header)
-    (en : n ≡ first_of (tests_for count s (length out))) where
-  counted : count ≡ length_2015 (header_of s)
-  counted = ec ∙ ap (λ (l : Layout). length_2015 l.header) el
+module _ (s out : List ℕ) where
+  -- The first number that applies, 0 where none does.
+  abbrev first : ℕ
+  first = first_of (tests_for (length_2015 (header_of s)) s (length out))
 
-  number : n ≡ refusal_2015 s (length out)
-  unfolding refusal_2015 tests_2015
-  number = en ∙ ap (λ (needed : ℕ). first_of (tests_for needed s (length out))) counted
+  told_first : first ≡ refusal_2015 s (length out)
+  told_first = unfold refusal_2015 tests_2015 in refl
 
-  pub refused_then : (n ≡ 0 → ⊥) → (refused n ≡ outcome_2015 s (length out)) × (out ≡ buffer_after_2015 s out)
-  unfolding outcome_2015 buffer_after_2015
-  refused_then p = Answers.turned_down (refusal_2015 s (length out)) (over (result_2015 (month_of s)) out) out (length_2015 (header_of s)) number p
+  -- One applies.
+  applies : 1 ≤ first → refusal_2015 s (length out) ≡ 0 → ⊥
+  applies one none = omega (arith, told_first)
 
-  module _ (none : n ≡ 0) where
-    kept_to : LimitsFor count s (length out)
-    kept_to = limits_for count s (length out) (sym en ∙ none)
+  pub told_refused : (refusal : Refusal)
+      → number_of refusal ≡ first_of (tests_for (length_2015 (header_of s)) s (length out))
+      → outcome_2015 s (length out) ≡ refused (number_of refusal)
+  unfolding outcome_2015
+  told_refused refusal e =
+      says_refused _ _ (applies (omega (arith, from_one refusal, e))) ∙ ap refused (sym (e ∙ told_first))
 
-    -- What the result's writer asks.
-    pub fine : (MonthLimits (month_under layout s) × (sheet_length layout ≤ length s)) × ((count ≡ length_2015 layout.header) × (count ≤ length out))
-    fine =
-        let w = kept_to in
-        (rw el (w.month, le_of_eq (sym w.form.length_right ∙ w.form.length_told)), (ec, w.enough_room))
+  pub left_alone : 1 ≤ first_of (tests_for (length_2015 (header_of s)) s (length out))
+      → buffer_after_2015 s out ≡ out
+  unfolding buffer_after_2015
+  left_alone one = kept _ _ out (applies one)
 
-    pub settled_then : {x : List ℕ} → x ≡ over (result_2015 (month_under layout s)) out
-        → (written count ≡ outcome_2015 s (length out)) × (x ≡ buffer_after_2015 s out)
-    unfolding outcome_2015 buffer_after_2015
-    settled_then e =
-        let done = Answers.let_through (refusal_2015 s (length out)) (over (result_2015 (month_of s)) out) out (length_2015 (header_of s)) (sym number ∙ none) in
-        (ap written counted ∙ done.0, e ∙ ap (λ (l : Layout). over (result_2015 (month_under l s)) out) el ∙ done.1)
+  -- None applies.
+  module _ (none : 0 ≡ first_of (tests_for (length_2015 (header_of s)) s (length out))) where
+    limits : LimitsFor (length_2015 (header_of s)) s (length out)
+    limits = limits_for (length_2015 (header_of s)) s (length out) (sym none)
+
+    pub enough_room : length_2015 (header_of s) ≤ length out
+    enough_room = limits.enough_room
+
+    pub told_written : outcome_2015 s (length out) ≡ written (length_2015 (header_of s))
+    unfolding outcome_2015
+    told_written = says_written _ _ (sym (none ∙ told_first))
+
+    -- The sheet that is read.
+    module _ (bytes : List ℕ) (layout : Layout) (same : bytes ≡ s) (told : layout ≡ layout_of s) where
+      pub month_limits : MonthLimits (month_under layout bytes)
+      month_limits = rw (same, told) limits.month
+
+      pub result_left : buffer_after_2015 s out ≡ over (result_2015 (month_under layout bytes)) out
+      unfolding buffer_after_2015
+      result_left = is_changed _ _ out (sym (none ∙ told_first)) ∙ rw (same, told)
+
+-- What the entry's proof goes by.
+pub ruleset settling = (from_one, told_refused, left_alone, enough_room, told_written, result_left)

@@ -16,8 +16,30 @@ use Rattle.rules.specs.Rows.{actual, payment}
 use Rattle.rules.specs.Consumers.{credit, counted_peak, percent, band, volume, charge}
 use Rattle.rules.specs.Totals.{total_paid, total_charged}
 use Rattle.rules.specs.Fields.{laid, joined}
-use Rattle.rules.specs.Sheet.{stated_width, producer_width, producer_at, hours_at, hour_series, power, producer_under}
-use Rattle.rules.specs.Result.{RowFigures, ConsumerFigures, TotalFigures, row_figures, consumer_figures, total_figures, row_fields, consumer_fields, total_fields, head_fields, row_record, consumer_record, result_of}
+use Rattle.rules.specs.Sheet.{
+  stated_width,
+  producer_width,
+  producer_at,
+  hours_at,
+  hour_series,
+  power,
+  producer_under,
+}
+use Rattle.rules.specs.Result.{
+  RowFigures,
+  ConsumerFigures,
+  TotalFigures,
+  row_figures,
+  consumer_figures,
+  total_figures,
+  row_fields,
+  consumer_fields,
+  total_fields,
+  head_fields,
+  row_record,
+  consumer_record,
+  result_of,
+}
 use Rattle.laws.proofs.Sheet.{Spans, series_span, span_ends, SameFields, stated_same}
 use Rattle.theorems.specs.Demand3.{WorseProducer, Worse, MoreRowsKeepAttested}
 use Rattle.theorems.specs.Alike.{SameProducer, Alike}
@@ -64,7 +86,8 @@ same_worse a =
       outside_use = λ i l. le_of_eq (sym (a.outside_use i l));
     }
 
-same_limits : {h : Header} {p p' : Producer} → SameProducer (hours h) p p' → ProducerLimits h p → ProducerLimits h p'
+same_limits : {h : Header} {p p' : Producer} → SameProducer (hours h) p p' → ProducerLimits h p
+    → ProducerLimits h p'
 same_limits a w =
     record {
       no_upward_bid = rw a.no_upward_bid w.no_upward_bid;
@@ -84,7 +107,8 @@ same_limits a w =
       outside_use = λ i l. rw (a.outside_use i l) (w.outside_use i l);
     }
 
--- Producers whose stated figures are the same bytes, each under its layout, and whose series have the same powers.
+-- Producers whose stated figures are the same bytes, each under its layout, and whose series have the same
+-- powers.
 module _ (l l' : Layout) (s t : List ℕ) (p : ℕ) where
   abbrev pub SamePowers : Series → Series → Type 0
   SamePowers x x' = (i : ℕ) → i < hours l.header → power t (hours_at l' p) x' i ≡ power s (hours_at l p) x i
@@ -116,7 +140,8 @@ module _ (l l' : Layout) (s t : List ℕ) (p : ℕ) where
 
   -- Where all their bytes are the same, and stand for the same hours.
   module _ (field : SameFields (producer_width l) t (producer_at l' p) s (producer_at l p)) (same : hour_series l' ≡ hour_series l) where
-    powers_same : (of : HourSeries → Series) → Spans l.header (of (hour_series l)) → SamePowers (of (hour_series l)) (of (hour_series l'))
+    powers_same : (of : HourSeries → Series) → Spans l.header (of (hour_series l))
+        → SamePowers (of (hour_series l)) (of (hour_series l'))
     unfolding hours_at power
     powers_same of spans i b =
         let x = of (hour_series l) in
@@ -168,7 +193,8 @@ alike_limits m m' a w =
       header = rw a.header w.header;
       producer = λ p l. rw a.header (same_limits (a.producer p (rw (sym a.header) l)) (w.producer p (rw (sym a.header) l)));
       row = λ j l. rw (a.header, a.row j (rw (sym a.header) l)) (w.row j (rw (sym a.header) l));
-      consumer = λ c l. rw (a.header, a.consumer c (rw (sym a.header) l)) (w.consumer c (rw (sym a.header) l));
+      consumer =
+          λ c l. rw (a.header, a.consumer c (rw (sym a.header) l)) (w.consumer c (rw (sym a.header) l));
     }
 
 module _ (m m' : Month) (a : Alike m m') (w : MonthLimits m) where

@@ -1,5 +1,5 @@
--- A sheet with another peak: what is kept, and that its month is the old one with that peak; and what higher powers drawn do. Assumes
--- nothing.
+-- A sheet with another peak: what is kept, and that its month is the old one with that peak; and what higher
+-- powers drawn do. Assumes nothing.
 use mathlib.Core.Path.{◌≡◌, refl, sym, ap, ◌∙◌}
 use mathlib.Core.Bool.{Bool, true, false, cond}
 use mathlib.Core.Logic.{◌⊎◌, inl, inr}
@@ -17,7 +17,22 @@ use Rattle.rules.specs.Month.{Month, hours, with_consumers}
 use Rattle.rules.specs.Units.{tenth, tenths_ceiling}
 use Rattle.rules.specs.Limits.{ConsumerLimits, FormLimits, MonthLimits}
 use Rattle.rules.specs.ControlHours.{control_hour, counted, control_sum, control_count, control_average}
-use Rattle.rules.specs.Cut.{owns, support, bilateral, own_volume, own_support, own_bilateral, support_volume, bilateral_volume, summed_capacity, excess, left_to_cut, after_cut, row_count, single}
+use Rattle.rules.specs.Cut.{
+  owns,
+  support,
+  bilateral,
+  own_volume,
+  own_support,
+  own_bilateral,
+  support_volume,
+  bilateral_volume,
+  summed_capacity,
+  excess,
+  left_to_cut,
+  after_cut,
+  row_count,
+  single,
+}
 use Rattle.rules.specs.Coefficients.{support_after, capacity_after, coefficients}
 use Rattle.rules.specs.Rows.{begun, factors, actual, payment}
 use Rattle.rules.specs.Consumers.{credited, credit, counted_peak, percent, band, volume, charge}
@@ -27,7 +42,15 @@ use Rattle.rules.specs.Sheet.{header_of, layout_of, month_of, consumer_at, consu
 use Rattle.rules.specs.Result.{TotalFigures, row_figures, consumer_figures, result_of}
 use Rattle.rules.specs.Outcome.{Accepted, buffer_after}
 use Rattle.rules.specs.ComplexRecord.{complex, drawn, sent}
-use Rattle.rules.specs.Averaging.{net, complex_peak, average_refusal, peak_written, averaged, at_peak, with_peak_of}
+use Rattle.rules.specs.Averaging.{
+  net,
+  complex_peak,
+  average_refusal,
+  peak_written,
+  averaged,
+  at_peak,
+  with_peak_of,
+}
 use Rattle.laws.proofs.Range.{sum_times}
 use Rattle.laws.proofs.Coefficients.{average_at_most}
 use Rattle.laws.proofs.Fields.{length-bytes_of, same_bytes, Holds, read_held}
@@ -49,7 +72,8 @@ module _ (m : Month) (k : ℕ → Consumer) where
   unfolding after_cut left_to_cut excess summed_capacity support_volume bilateral_volume own_support own_bilateral own_volume owns support bilateral row_count single support_after capacity_after coefficients begun factors actual payment
   rows_kept j = refl
 
-  consumers_kept : (c : ℕ) → k c ≡ m.consumer c → consumer_figures (with_consumers m k) c ≡ consumer_figures m c
+  consumers_kept : (c : ℕ) → k c ≡ m.consumer c
+      → consumer_figures (with_consumers m k) c ≡ consumer_figures m c
   unfolding charge volume band percent counted_peak credit credited after_cut left_to_cut excess summed_capacity support_volume bilateral_volume own_support own_bilateral own_volume owns support bilateral row_count single support_after capacity_after coefficients begun factors actual payment
   consumers_kept c e = rw e
 
@@ -58,7 +82,8 @@ module _ (m : Month) (k : ℕ → Consumer) where
   paid_kept = refl
 
 -- The control average of figures up to a ceiling is not above it, whatever it is rounded to.
-control_average_at_most : (fineness : ℕ) (h : Header) (f : ℕ → ℕ) (most : ℕ) → ((i : ℕ) → i < hours h → f i ≤ most)
+control_average_at_most : (fineness : ℕ) (h : Header) (f : ℕ → ℕ) (most : ℕ)
+    → ((i : ℕ) → i < hours h → f i ≤ most)
     → control_average fineness h f ≤ fineness * most
 unfolding control_average
 control_average_at_most fineness h f most low = average_at_most fineness most (control_count h) sums
@@ -87,13 +112,15 @@ module _ (s : List ℕ) (form : FormLimits s) (c peak : ℕ) (b : c < (header_of
 
   kept : (i : ℕ) → OutsidePeak s c i → get_or after i 0 ≡ get_or s i 0
   unfolding with_peak
-  kept i o = over_at_keeps (peak_at (layout_of s) c) (bytes_of 4 peak) s fits i (λ q. rw length-bytes_of (o q))
+  kept i o =
+      over_at_keeps (peak_at (layout_of s) c) (bytes_of 4 peak) s fits i (λ q. rw length-bytes_of (o q))
 
   front_kept : (i : ℕ) → i < consumer_at (layout_of s) 0 → get_or after i 0 ≡ get_or s i 0
   front_kept i l = kept i (unfold consumer_at in λ q. omega (arith, l, q))
 
   -- A figure that does not reach into the peak.
-  figure_kept : (w at : ℕ) → ((i : ℕ) → i < w → OutsidePeak s c (at + i)) → big_endian w after at ≡ big_endian w s at
+  figure_kept : (w at : ℕ) → ((i : ℕ) → i < w → OutsidePeak s c (at + i))
+      → big_endian w after at ≡ big_endian w s at
   figure_kept w at o = same_bytes w after s at at (λ i l. kept (at + i) (o i l))
 
   peak_read : peak < 256 ^ 4 → big_endian 4 after (peak_at (layout_of s) c) ≡ peak
@@ -101,14 +128,17 @@ module _ (s : List ℕ) (form : FormLimits s) (c peak : ℕ) (b : c < (header_of
   peak_read f = read_held 4 _ (peak_at (layout_of s) c) peak f (over_at_holds (peak_at (layout_of s) c) (bytes_of 4 peak) s fits)
 
   -- The consumers are the old ones, this one with its peak.
-  own_kept : (w k : ℕ) → (k + w ≤ 4) ⊎ (8 ≤ k) → big_endian w after (consumer_at (layout_of s) c + k) ≡ big_endian w s (consumer_at (layout_of s) c + k)
+  own_kept : (w k : ℕ) → (k + w ≤ 4) ⊎ (8 ≤ k) → big_endian w after (consumer_at (layout_of s) c + k)
+      ≡ big_endian w s (consumer_at (layout_of s) c + k)
   own_kept w k (inl l) = figure_kept w _ (λ i q p. omega (arith, l, q, p))
   own_kept w k (inr l) = figure_kept w _ (λ i q p. omega (arith, l, q, p))
 
-  other_kept : (d w k : ℕ) → (d ≡ c → ⊥) → k + w ≤ 15 → big_endian w after (consumer_at (layout_of s) d + k) ≡ big_endian w s (consumer_at (layout_of s) d + k)
+  other_kept : (d w k : ℕ) → (d ≡ c → ⊥) → k + w ≤ 15 → big_endian w after (consumer_at (layout_of s) d + k)
+      ≡ big_endian w s (consumer_at (layout_of s) d + k)
   other_kept d w k n l = figure_kept w (consumer_at (layout_of s) d + k) (λ i q p. omega (arith, apart d (k + i) n (omega (arith, l, q)) (omega (arith, p))))
     where
-      apart : (d k : ℕ) → (d ≡ c → ⊥) → k < 15 → peak_at (layout_of s) c ≤ consumer_at (layout_of s) d + k → peak_at (layout_of s) c + 4 ≤ consumer_at (layout_of s) d + k
+      apart : (d k : ℕ) → (d ≡ c → ⊥) → k < 15 → peak_at (layout_of s) c ≤ consumer_at (layout_of s) d + k
+          → peak_at (layout_of s) c + 4 ≤ consumer_at (layout_of s) d + k
       apart d k n l p = unfold consumer_at in omega (arith, n, l, p)
 
   module _ (small : peak ≤ tenths_ceiling) where
@@ -123,7 +153,8 @@ module _ (s : List ℕ) (form : FormLimits s) (c peak : ℕ) (b : c < (header_of
           own_kept 4 11 (inr (omega arith)),
         )
 
-    other_read : (d : ℕ) → (d ≡ c → ⊥) → consumer_of after (consumer_at (layout_of s) d) ≡ (month_of s).consumer d
+    other_read : (d : ℕ) → (d ≡ c → ⊥)
+        → consumer_of after (consumer_at (layout_of s) d) ≡ (month_of s).consumer d
     other_read d n =
         rw (
           rw add-zero at (other_kept d 4 0 n (omega arith)),
@@ -134,14 +165,17 @@ module _ (s : List ℕ) (form : FormLimits s) (c peak : ℕ) (b : c < (header_of
           other_kept d 4 11 n (omega arith),
         )
 
-    consumers_read : (d : ℕ) → d < (header_of s).consumers → consumer_of after (consumer_at (layout_of s) d) ≡ consumers d
+    consumers_read : (d : ℕ) → d < (header_of s).consumers
+        → consumer_of after (consumer_at (layout_of s) d) ≡ consumers d
     consumers_read d l = go (eqb d c) refl
       where
-        go : (q : Bool) → eqb d c ≡ q → consumer_of after (consumer_at (layout_of s) d) ≡ cond q (at_peak ((month_of s).consumer d) peak) ((month_of s).consumer d)
+        go : (q : Bool) → eqb d c ≡ q → consumer_of after (consumer_at (layout_of s) d)
+            ≡ cond q (at_peak ((month_of s).consumer d) peak) ((month_of s).consumer d)
         go true e = rw (eqb-true d c e) own_read
         go false e = other_read d (eqb-false _ _ e)
 
-    fine : MonthLimits (month_of s) → (d : ℕ) → d < (header_of s).consumers → ConsumerLimits (header_of s) (consumers d)
+    fine : MonthLimits (month_of s) → (d : ℕ) → d < (header_of s).consumers
+        → ConsumerLimits (header_of s) (consumers d)
     fine w d l = go (eqb d c)
       where
         go : (q : Bool) → ConsumerLimits (header_of s) (cond q (at_peak ((month_of s).consumer d) peak) ((month_of s).consumer d))
@@ -198,7 +232,8 @@ module _ (s r : List ℕ) where
     before : (i : ℕ) → i < consumer_at (layout_of s) 0 → get_or new i 0 ≡ get_or s i 0
     before = front_kept s form (complex r) (complex_peak (header_of s) r) whole.complex
 
-    read : (c : ℕ) → c < (header_of s).consumers → consumer_of new (consumer_at (layout_of s) c) ≡ month.consumer c
+    read : (c : ℕ) → c < (header_of s).consumers
+        → consumer_of new (consumer_at (layout_of s) c) ≡ month.consumer c
     read = consumers_read s form (complex r) (complex_peak (header_of s) r) whole.complex peak_most
 
     within : (c : ℕ) → c < (header_of s).consumers → ConsumerLimits (header_of s) (month.consumer c)
@@ -221,7 +256,8 @@ module _ (s r : List ℕ) where
         ∙ ap (λ (k : Consumer). k.peak) ((Other.alike_after s new long before month.consumer read).consumer (complex r) whole.complex)
         ∙ rw (eq-eqb (complex r) (complex r) refl)
 
-    pub settled : (out : List ℕ) → Accepted s (length out) → buffer_after (averaged s r) out ≡ over (result_of month) out
+    pub settled : (out : List ℕ) → Accepted s (length out)
+        → buffer_after (averaged s r) out ≡ over (result_of month) out
     settled out a = ap (λ (x : List ℕ). buffer_after x out) is_written ∙ Other.settled s new long before month.consumer read form within out a
 
   pub one_field : OnlyPeak (complex r) s (averaged s r)
@@ -287,7 +323,14 @@ module _ (s : List ℕ) where
     worse = record { producer = λ p l. less_attested ((month_of s).producer p) _ (le_refl _); row = λ j l. refl; consumer = λ d l. go d (eqb d (complex r)) }
       where
         at : (k : Consumer) (p q : ℕ) → p ≤ q → WorseConsumer (at_peak k p) (at_peak k q)
-        at k p q l = record { contract = refl; peak = l; supplier = le_refl _; grid = le_refl _; z = le_refl _; price = refl }
+        at k p q l = record {
+          contract = refl;
+          peak = l;
+          supplier = le_refl _;
+          grid = le_refl _;
+          z = le_refl _;
+          price = refl;
+        }
 
         go : (d : ℕ) (q : Bool)
             → WorseConsumer (cond q (at_peak ((month_of s).consumer d) (complex_peak (header_of s) r)) ((month_of s).consumer d))
@@ -316,10 +359,15 @@ module _ (s : List ℕ) where
           months_no_better (month s r) (with_peak_of (month_of s) (complex r) (complex_peak (header_of s) r')) refl (with_kept s r none) kept' worse (λ p l more. refl)
           first second held held'
 
-      pub no_lower : NoLower (header_of s) (complex r) first second × OnlyLine (header_of s) (complex r) first second
+      pub no_lower : NoLower (header_of s) (complex r) first second
+          × OnlyLine (header_of s) (complex r) first second
       no_lower =
           let l = (whole s r none).complex in (
-            record { volume = better.consumer_volume _ l; charge = better.consumer_charge _ l; total_charged = better.total_charged },
+            record {
+              volume = better.consumer_volume _ l;
+              charge = better.consumer_charge _ l;
+              total_charged = better.total_charged;
+            },
             only_line (month_of s) (complex r) (month s r).consumer (with_peak_of (month_of s) (complex r) (complex_peak (header_of s) r')).consumer
                 (λ d n. other_peak (month_of s) (complex r) _ d n ∙ sym (other_peak (month_of s) (complex r) _ d n))
                 (with_kept s r none) kept' first second held held',

@@ -12,16 +12,20 @@ use Rattle.rules.specs.Bands.{bands, factor_of, band_of, over_nothing, parts_of,
 use Rattle.laws.proofs.Units.{rounded_mono}
 use Rattle.theorems.specs.Request4.{rising}
 
-least : (row : Band) (rows : List Band) → T (rising (row ∷ rows)) → (p : ℕ) → row.factor ≤ factor_of (row ∷ rows) p
+least : (row : Band) (rows : List Band) → T (rising (row ∷ rows)) → (p : ℕ)
+    → row.factor ≤ factor_of (row ∷ rows) p
 unfolding factor_of
 least row [] t p = le_refl row.factor
-least row (next ∷ rows) t p = go (leb p row.edge) (least next rows (and_r (leb row.factor next.factor) (rising (next ∷ rows)) t) p)
+least row (next ∷ rows) t p =
+    go (leb p row.edge) (least next rows (and_r (leb row.factor next.factor) (rising (next ∷ rows)) t) p)
   where
-    go : (b : Bool) → next.factor ≤ factor_of (next ∷ rows) p → row.factor ≤ cond b row.factor (factor_of (next ∷ rows) p)
+    go : (b : Bool) → next.factor ≤ factor_of (next ∷ rows) p
+        → row.factor ≤ cond b row.factor (factor_of (next ∷ rows) p)
     go true h = le_refl row.factor
     go false h = le_trans (leb→le _ _ (and_l (leb row.factor next.factor) (rising (next ∷ rows)) t)) h
 
-pub larger_excess_no_smaller_factor : (t : List Band) → T (rising t) → (p q : ℕ) → p ≤ q → factor_of t p ≤ factor_of t q
+pub larger_excess_no_smaller_factor : (t : List Band) → T (rising t) → (p q : ℕ) → p ≤ q
+    → factor_of t p ≤ factor_of t q
 unfolding factor_of
 larger_excess_no_smaller_factor [] t p q h = le_refl 0
 larger_excess_no_smaller_factor (row ∷ []) t p q h = le_refl row.factor

@@ -6,7 +6,17 @@ use native.Mathlib.Omega.{arith}
 use Rattle.rules.specs.declared.Header.{Header}
 use Rattle.rules.specs.declared.Consumer.{Consumer}
 use Rattle.rules.specs.Month.{Month}
-use Rattle.rules.specs.Consumers.{credit, counted_peak, over_contract, percent_of, bracket, mining, volume_of, volume, charge}
+use Rattle.rules.specs.Consumers.{
+  credit,
+  counted_peak,
+  over_contract,
+  percent_of,
+  bracket,
+  mining,
+  volume_of,
+  volume,
+  charge,
+}
 use Rattle.laws.proofs.Units.{rounded_mono, money_mono}
 use Rattle.theorems.specs.Demand3.{WorseConsumer}
 use Rattle.theorems.proofs.Bands.{band_mono, thousandths_mono}
@@ -40,7 +50,14 @@ pub exam : (days : ℕ) (c : Consumer) {x y : ℕ} → x ≤ y → volume_of day
 exam days c h = volume_of_mono c c refl alike h
   where
     alike : WorseConsumer c c
-    alike = record { contract = refl; peak = le_refl _; supplier = le_refl _; grid = le_refl _; z = le_refl _; price = refl }
+    alike = record {
+      contract = refl;
+      peak = le_refl _;
+      supplier = le_refl _;
+      grid = le_refl _;
+      z = le_refl _;
+      price = refl;
+    }
 
 -- In a month: a worse consumer with no larger credit.
 module _ (m m' : Month) (e : m'.header ≡ m.header) (c : ℕ) (w : WorseConsumer (m.consumer c) (m'.consumer c)) (less : credit m' c ≤ credit m c) where

@@ -1,4 +1,5 @@
--- Demand 1 of the definitions: the number of a refusal is that of the first test that applies. Assumes nothing.
+-- Demand 1 of the definitions: the number of a refusal is that of the first test that applies. Assumes
+-- nothing.
 use mathlib.Core.Path.{◌≡◌, refl, sym, ◌∙◌}
 use mathlib.Core.Bool.{Bool, true, false, not, cond, ◌||◌, ◌&&◌, true≢false}
 use mathlib.Core.List.{List, [], ◌∷◌}
@@ -8,7 +9,19 @@ use lib.Ieee.Fits.{and_l, and_r}
 use borrow.Author.Tests.{eqb-true, eq-eqb}
 use Rattle.rules.specs.Sheet.{header_of}
 use Rattle.rules.specs.Result.{result_length}
-use Rattle.rules.specs.Refusals.{Test, front_tests, header_tests, form_tests, room_tests, figure_tests, tests_for, tests, applies, first_of, refusal}
+use Rattle.rules.specs.Refusals.{
+  Test,
+  front_tests,
+  header_tests,
+  form_tests,
+  room_tests,
+  figure_tests,
+  tests_for,
+  tests,
+  applies,
+  first_of,
+  refusal,
+}
 use Rattle.theorems.specs.Demand1.{before, First}
 
 -- A number stands in a list; no number stands twice.
@@ -29,7 +42,8 @@ first_stands (t ∷ ts) n e p = go t.applies e (λ (q : first_of ts ≡ n). firs
     or_yes true = refl
     or_yes false = refl
 
-    go : (b : Bool) → cond b t.number (first_of ts) ≡ n → (first_of ts ≡ n → stands n ts ≡ true) → (eqb t.number n || stands n ts) ≡ true
+    go : (b : Bool) → cond b t.number (first_of ts) ≡ n → (first_of ts ≡ n → stands n ts ≡ true)
+        → (eqb t.number n || stands n ts) ≡ true
     go true q rest = rw (eq-eqb t.number n q)
     go false q rest = rw (rest q) (or_yes (eqb t.number n))
 
@@ -54,7 +68,8 @@ first (t ∷ ts) d n e p = go t.applies refl e (λ (q : first_of ts ≡ n). firs
         ∙ (rw (eqb-true t.number n same) at (not_so (stands t.number ts) (and_l (not (stands t.number ts)) (distinct ts) d)))))
     other q false same = same
 
-    go : (b : Bool) → t.applies ≡ b → cond b t.number (first_of ts) ≡ n → (first_of ts ≡ n → First ts n) → First (t ∷ ts) n
+    go : (b : Bool) → t.applies ≡ b → cond b t.number (first_of ts) ≡ n → (first_of ts ≡ n → First ts n)
+        → First (t ∷ ts) n
     go true a q rest =
         record { it_applies = rw (eq-eqb t.number n q) a; none_before = λ k. rw (eq-eqb t.number n q) }
     go false a q rest =
@@ -64,7 +79,8 @@ first (t ∷ ts) d n e p = go t.applies refl e (λ (q : first_of ts ≡ n). firs
         }
 
 -- A refusal with number n above 0: test n of the sheet applies, and none that is tried before it does.
-pub first_for : (needed : ℕ) (s : List ℕ) (room n : ℕ) → first_of (tests_for needed s room) ≡ n → (n ≡ 0 → ⊥) → First (tests_for needed s room) n
+pub first_for : (needed : ℕ) (s : List ℕ) (room n : ℕ) → first_of (tests_for needed s room) ≡ n → (n ≡ 0 → ⊥)
+    → First (tests_for needed s room) n
 first_for needed s room n e p =
     first (tests_for needed s room) (unfold tests_for front_tests header_tests form_tests room_tests figure_tests in tt) n e p
 

@@ -10,7 +10,15 @@ use Rattle.rules.specs.Month.{Month}
 use Rattle.rules.specs.Limits.{MonthLimits}
 use Rattle.rules.specs.Fields.{big_endian, over}
 use Rattle.rules.specs.Sheet.{header_width, header_of, month_of}
-use Rattle.rules.specs.Result.{read_row, read_consumer, read_totals, row_figures, consumer_figures, total_figures, result_of}
+use Rattle.rules.specs.Result.{
+  read_row,
+  read_consumer,
+  read_totals,
+  row_figures,
+  consumer_figures,
+  total_figures,
+  result_of,
+}
 use Rattle.rules.specs.Refusals.{refusal}
 use Rattle.rules.specs.Outcome.{Accepted, buffer_after}
 use Rattle.laws.proofs.Fields.{same_bytes, Holds, holds_front}
@@ -24,7 +32,8 @@ use Rattle.theorems.proofs.ReadBack.{row_read, consumer_read, totals_read}
 use Rattle.theorems.proofs.Months as Months
 
 -- A field within the first n bytes is the same where those are.
-front_same : (n w at : ℕ) (s t : List ℕ) → take n s ≡ take n t → at + w ≤ n → big_endian w s at ≡ big_endian w t at
+front_same : (n w at : ℕ) (s t : List ℕ) → take n s ≡ take n t → at + w ≤ n
+    → big_endian w s at ≡ big_endian w t at
 front_same n w at s t e l = same_bytes w s t at at (λ i q. byte i (omega arith))
   where
     byte : (i : ℕ) → at + i < n → get_or s (at + i) 0 ≡ get_or t (at + i) 0
@@ -38,7 +47,8 @@ pub over_begins : (p out : List ℕ) {x : List ℕ} → x ≡ over p out → Hol
 unfolding over
 over_begins p out e = rw e (holds_front p (drop (length p) out))
 
-pub begins : (s out : List ℕ) → Accepted s (length out) → Holds (buffer_after s out) 0 (result_of (month_of s))
+pub begins : (s out : List ℕ) → Accepted s (length out)
+    → Holds (buffer_after s out) 0 (result_of (month_of s))
 unfolding buffer_after
 begins s out a = over_begins (result_of (month_of s)) out (is_changed (refusal s (length out)) (over (result_of (month_of s)) out) out a)
 
@@ -70,8 +80,10 @@ module _ (m m' : Month) (e : m'.header ≡ m.header) (w : MonthLimits m) (w' : M
   pub months_no_better : NoBetter m.header out out'
   months_no_better =
       record {
-        row_actual = λ j l. rw (row' j l, row_read m w out b j l) (Months.actual_down m m' e w worse keeps j l);
-        row_payment = λ j l. rw (row' j l, row_read m w out b j l) (Months.payment_down m m' e w worse keeps j l);
+        row_actual =
+            λ j l. rw (row' j l, row_read m w out b j l) (Months.actual_down m m' e w worse keeps j l);
+        row_payment =
+            λ j l. rw (row' j l, row_read m w out b j l) (Months.payment_down m m' e w worse keeps j l);
         consumer_volume = λ c l. rw (consumer' c l, consumer_read m w out b c l) (Months.volume_up m m' e w worse keeps c l);
         consumer_charge = λ c l. rw (consumer' c l, consumer_read m w out b c l) (Months.charge_up m m' e w worse keeps c l);
         total_paid = rw (totals', totals_read m w out b) (Months.paid_down m m' e w worse keeps);
@@ -79,8 +91,10 @@ module _ (m m' : Month) (e : m'.header ≡ m.header) (w : MonthLimits m) (w' : M
       }
 
 -- Demand 3.
-pub no_better : (s s' out out' : List ℕ) → Accepted s (length out) → Accepted s' (length out') → WorseSheet s s'
-    → MoreRowsKeepAttested (month_of s) (month_of s') → NoBetter (header_of s) (buffer_after s out) (buffer_after s' out')
+pub no_better : (s s' out out' : List ℕ) → Accepted s (length out) → Accepted s' (length out')
+    → WorseSheet s s'
+    → MoreRowsKeepAttested (month_of s) (month_of s')
+    → NoBetter (header_of s) (buffer_after s out) (buffer_after s' out')
 no_better s s' out out' a a' w keeps =
     months_no_better (month_of s) (month_of s') (same_header s s' w.header)
     (limits s (length out) a).month (limits s' (length out') a').month w.figures keeps

@@ -15,14 +15,19 @@ use Rattle.theorems.proofs.Rows as Rows
 use Rattle.theorems.proofs.Consumers as Consumers
 
 pub own_rows_same : {m m' : Month} → Worse m m' → (p : ℕ) → Rows.SameRowsOf m m' p
-own_rows_same w p = record { owner = λ j l. ap (λ (r : Row). r.producer) (w.row j l); own = λ j l q. w.row j l }
+own_rows_same w p =
+    record { owner = λ j l. ap (λ (r : Row). r.producer) (w.row j l); own = λ j l q. w.row j l }
 
 module _ (m m' : Month) (e : m'.header ≡ m.header) (limits : MonthLimits m) (w : Worse m m') (keeps : MoreRowsKeepAttested m m') where
   pub actual_down : (j : ℕ) → j < m.header.rows → actual m' j ≤ actual m j
-  actual_down j l = let b = (limits.row j l).producer in Rows.actual_down m m' e j l (w.producer _ b) (own_rows_same w _) (keeps _ b)
+  actual_down j l =
+      let b = (limits.row j l).producer in
+      Rows.actual_down m m' e j l (w.producer _ b) (own_rows_same w _) (keeps _ b)
 
   pub payment_down : (j : ℕ) → j < m.header.rows → payment m' j ≤ payment m j
-  payment_down j l = let b = (limits.row j l).producer in Rows.payment_down m m' e j l (w.producer _ b) (own_rows_same w _) (keeps _ b)
+  payment_down j l =
+      let b = (limits.row j l).producer in
+      Rows.payment_down m m' e j l (w.producer _ b) (own_rows_same w _) (keeps _ b)
 
   pub credit_down : (c : ℕ) → credit m' c ≤ credit m c
   unfolding credit credited bilateral support

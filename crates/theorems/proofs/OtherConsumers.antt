@@ -1,5 +1,5 @@
--- A sheet that differs from another in its consumers alone: its month is the other with those consumers, and so is its result. Assumes
--- nothing.
+-- A sheet that differs from another in its consumers alone: its month is the other with those consumers, and
+-- so is its result. Assumes nothing.
 use mathlib.Core.Path.{◌≡◌, refl, sym, ap, subst, ◌∙◌}
 use mathlib.Core.List.{List}
 use Prim.Native.Nat.{ℕ, ◌+◌, ◌*◌, ◌≤◌, ◌<◌}
@@ -12,7 +12,23 @@ use Rattle.rules.specs.declared.Layout.{Layout}
 use Rattle.rules.specs.Month.{hours, with_consumers}
 use Rattle.rules.specs.Limits.{HeaderLimits, ConsumerLimits, FormLimits, MonthLimits}
 use Rattle.rules.specs.Fields.{big_endian, over}
-use Rattle.rules.specs.Sheet.{version, length_field, header_of, layout_of, month_of, month_under, hours_width, producer_at, hours_at, producer_under, row_at, row_of, consumer_at, consumer_of, sheet_length}
+use Rattle.rules.specs.Sheet.{
+  version,
+  length_field,
+  header_of,
+  layout_of,
+  month_of,
+  month_under,
+  hours_width,
+  producer_at,
+  hours_at,
+  producer_under,
+  row_at,
+  row_of,
+  consumer_at,
+  consumer_of,
+  sheet_length,
+}
 use Rattle.rules.specs.Result.{result_length, result_of}
 use Rattle.rules.specs.Refusals.{refusal}
 use Rattle.rules.specs.Outcome.{Accepted, buffer_after}
@@ -24,7 +40,8 @@ use Rattle.theorems.specs.Alike.{SameProducer, Alike}
 use Rattle.theorems.proofs.Alike.{producer_same, alike_limits, alike_result}
 
 -- A producer below P, and a row below R, end where the consumers begin.
-producer_ends : (l : Layout) (p : ℕ) → p < l.header.producers → hours_at l p + hours_width l.header ≤ consumer_at l 0
+producer_ends : (l : Layout) (p : ℕ) → p < l.header.producers
+    → hours_at l p + hours_width l.header ≤ consumer_at l 0
 unfolding consumer_at row_at hours_at producer_at
 producer_ends l p b = omega (arith, mul-le-mul_right (42 + 288 * l.header.days) b)
 
@@ -54,7 +71,8 @@ module _ (s t : List ℕ) (as_long : length t ≡ length s) (front_kept : (i : �
       let ends = producer_ends (layout_of s) p b in
       producer_same (layout_of s) (layout_of s) s t p (λ w k q. front w (producer_at (layout_of s) p + k) (unfold hours_at in omega (arith, ends))) refl
 
-  same_row : (j : ℕ) → j < (header_of s).rows → row_of (layout_of s) t (row_at (layout_of s) j) ≡ row_of (layout_of s) s (row_at (layout_of s) j)
+  same_row : (j : ℕ) → j < (header_of s).rows
+      → row_of (layout_of s) t (row_at (layout_of s) j) ≡ row_of (layout_of s) s (row_at (layout_of s) j)
   same_row j b =
       let ends = rows_end (layout_of s) j b in
       row_same t (row_at (layout_of s) j) s (row_at (layout_of s) j) (layout_of s) (λ w k q. front w (row_at (layout_of s) j + k) (omega (arith, ends)))
@@ -92,11 +110,13 @@ module _ (s t : List ℕ) (as_long : length t ≡ length s) (front_kept : (i : �
           (record {
             form = form_after;
             enough_room = subst (λ (h : Header). result_length h ≤ bytes) (sym header_kept) w.enough_room;
-            month = alike_limits (with_consumers (month_of s) k) (month_of t) alike_after (with_limits w.month);
+            month =
+                alike_limits (with_consumers (month_of s) k) (month_of t) alike_after (with_limits w.month);
           })
 
       -- And its result is that of the month with these consumers.
-      pub settled : (out : List ℕ) → Accepted s (length out) → buffer_after t out ≡ over (result_of (with_consumers (month_of s) k)) out
+      pub settled : (out : List ℕ) → Accepted s (length out)
+          → buffer_after t out ≡ over (result_of (with_consumers (month_of s) k)) out
       unfolding buffer_after
       settled out a =
           is_changed (refusal t (length out)) (over (result_of (month_of t)) out) out (stays (length out) a)

@@ -1,4 +1,5 @@
--- A sheet written in another version: another length and version in front, the same month and counts behind them. Assumes nothing.
+-- A sheet written in another version: another length and version in front, the same month and counts behind
+-- them. Assumes nothing.
 use mathlib.Core.Path.{◌≡◌, sym, ap, subst, ◌∙◌}
 use mathlib.Core.List.{List, [], ◌∷◌, ◌++◌}
 use Prim.Native.Nat.{ℕ, ◌≤◌, ◌<◌}
@@ -29,7 +30,8 @@ module _ (s t : List ℕ) (long v : ℕ) (rest : List ℕ) (whole : Holds t 0 (f
   -- Both fit their fields, and the month and the counts are those of s.
   module _ (long_fits : long < 4294967296) (v_fits : v < 256) (same : SameFields 9 t 5 s 5) where
     front_read : (big_endian 4 t 0 ≡ long) × (big_endian 1 t 4 ≡ v)
-    front_read = let r = read_laid t 0 (field 4 long ∷ field 1 v ∷ []) (long_fits, (v_fits, tt)) (holds_left t 0 (front long v) rest whole) in (r.0, r.1.0)
+    front_read =
+        let r = read_laid t 0 (field 4 long ∷ field 1 v ∷ []) (long_fits, (v_fits, tt)) (holds_left t 0 (front long v) rest whole) in (r.0, r.1.0)
 
     pub layout_after : layout_of t ≡ after
     unfolding version

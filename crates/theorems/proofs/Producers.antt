@@ -1,4 +1,5 @@
--- A worse producer has no higher coefficient, with the same T and S; no smaller penalty; and with no larger S, no more met. Assumes nothing.
+-- A worse producer has no higher coefficient, with the same T and S; no smaller penalty; and with no larger
+-- S, no more met. Assumes nothing.
 use mathlib.Core.Path.{◌≡◌, refl, sym, ap}
 use mathlib.Core.List.{List, [], ◌∷◌}
 use Prim.Native.Nat.{ℕ, zero, suc, zero-le, ◌≤◌, ◌<◌}
@@ -8,14 +9,40 @@ use Rattle.rules.specs.Range.{sum}
 use Rattle.rules.specs.Units.{one, hundredth, in_hundredths, in_thousandths}
 use Rattle.rules.specs.declared.Header.{Header}
 use Rattle.rules.specs.Month.{Producer, hours}
-use Rattle.rules.specs.ControlHours.{control_hour, counted, control_sum, control_count, average, control_average}
-use Rattle.rules.specs.Coefficients.{share, millionths_of, overuse, penalty, less_penalty, exact_k1, k1, k2, asked, met, met_over, exact_k4, k4, k5, from_k5, in_order, others}
+use Rattle.rules.specs.ControlHours.{
+  control_hour,
+  counted,
+  control_sum,
+  control_count,
+  average,
+  control_average,
+}
+use Rattle.rules.specs.Coefficients.{
+  share,
+  millionths_of,
+  overuse,
+  penalty,
+  less_penalty,
+  exact_k1,
+  k1,
+  k2,
+  asked,
+  met,
+  met_over,
+  exact_k4,
+  k4,
+  k5,
+  from_k5,
+  in_order,
+  others,
+}
 use Rattle.laws.proofs.Range.{sum_mono, sum_same, when_mono}
 use Rattle.laws.proofs.Units.{rounded_mono}
 use Rattle.theorems.specs.Demand3.{WorseProducer}
 use Rattle.theorems.proofs.Bands.{band_mono, thousandths_mono}
 
--- A larger part of the same whole has no smaller share; a larger penalty leaves no more; more met of what is asked is no smaller part.
+-- A larger part of the same whole has no smaller share; a larger penalty leaves no more; more met of what is
+-- asked is no smaller part.
 share_mono : (whole : ℕ) {part part' : ℕ} → part ≤ part' → share part whole ≤ share part' whole
 unfolding share
 share_mono whole h = rounded_mono whole (mul-le-mul_right one h)
@@ -55,7 +82,8 @@ pub data NoMore : List ℕ → List ℕ → Type 0 where
 module _ (h : Header) (p p' : Producer) (w : WorseProducer (hours h) p p') where
   pub penalty_up : penalty h p ≤ penalty h p'
   unfolding penalty
-  penalty_up = mul-le-mul (band_mono (thousandths_mono (ap in_hundredths (sym w.deductible)) overuse_up)) overuse_up
+  penalty_up =
+      mul-le-mul (band_mono (thousandths_mono (ap in_hundredths (sym w.deductible)) overuse_up)) overuse_up
     where
       overuse_up : overuse h p ≤ overuse h p'
       overuse_up = unfold overuse in omega (arith, ap in_hundredths w.deductible, control_average_mono hundredth h p.outside_use p'.outside_use w.outside_use)
@@ -102,7 +130,8 @@ pub in_order_down : {h h' : Header} {p p' : Producer} {T T' S S' : ℕ} → h' �
     → WorseProducer (hours h) p p' → NoMore (in_order h' p' T' S') (in_order h p T S)
 in_order_down {h} {p = p} {p' = p'} {T = T} {S = S} eh e_t e_s w = rw (eh, e_t, e_s) (none_up h p p' w T S)
 
-pub others_down : {h h' : Header} {p p' : Producer} → h' ≡ h → WorseProducer (hours h) p p' → NoMore (others h' p') (others h p)
+pub others_down : {h h' : Header} {p p' : Producer} → h' ≡ h → WorseProducer (hours h) p p'
+    → NoMore (others h' p') (others h p)
 others_down {h} {p = p} {p' = p'} eh w = rw eh (no_other_up h p p' w)
 
 -- A producer with less attested capacity, and all else the same, is worse.
@@ -126,7 +155,8 @@ with_attested p attested =
       outside_use = p.outside_use;
     }
 
-pub less_attested : {n : ℕ} (p : Producer) (attested : ℕ) → attested ≤ p.attested → WorseProducer n p (with_attested p attested)
+pub less_attested : {n : ℕ} (p : Producer) (attested : ℕ) → attested ≤ p.attested
+    → WorseProducer n p (with_attested p attested)
 less_attested p attested l =
     record {
       attested = l;

@@ -1,4 +1,5 @@
--- The result has the length it states, every figure fits its field, and each is read back from the result's bytes at its place. Assumes nothing.
+-- The result has the length it states, every figure fits its field, and each is read back from the result's
+-- bytes at its place. Assumes nothing.
 use mathlib.Core.Path.{◌≡◌}
 use mathlib.Core.List.{List, ◌++◌}
 use Prim.Native.Nat.{ℕ, ◌+◌, ◌*◌, ◌<◌}
@@ -8,8 +9,35 @@ use lib.ListN.{length, length-append}
 use Rattle.rules.specs.Month.{Month}
 use Rattle.rules.specs.Limits.{MonthLimits}
 use Rattle.rules.specs.Fields.{laid, width_of, joined}
-use Rattle.rules.specs.Result.{row_figures, consumer_figures, total_figures, row_fields, consumer_fields, total_fields, head_fields, result_length, row_record, consumer_record, result_of, row_record_at, consumer_record_at, totals_at, read_row, read_consumer, read_totals}
-use Rattle.laws.proofs.Fields.{Holds, holds_left, holds_right, length-laid, Fit, read_laid, length-joined, held_record}
+use Rattle.rules.specs.Result.{
+  row_figures,
+  consumer_figures,
+  total_figures,
+  row_fields,
+  consumer_fields,
+  total_fields,
+  head_fields,
+  result_length,
+  row_record,
+  consumer_record,
+  result_of,
+  row_record_at,
+  consumer_record_at,
+  totals_at,
+  read_row,
+  read_consumer,
+  read_totals,
+}
+use Rattle.laws.proofs.Fields.{
+  Holds,
+  holds_left,
+  holds_right,
+  length-laid,
+  Fit,
+  read_laid,
+  length-joined,
+  held_record,
+}
 use Rattle.laws.proofs.Figures as Figures
 
 module _ (m : Month) where
@@ -38,7 +66,8 @@ module _ (m : Month) where
   -- The result is as long as it says.
   pub result_has_length : length (result_of m) ≡ result_length m.header
   unfolding result_of result_length
-  result_has_length = simp (length-append, length_head, length_totals, length-rows, length-consumers) (omega arith)
+  result_has_length =
+      simp (length-append, length_head, length_totals, length-rows, length-consumers) (omega arith)
 
 -- Every figure of an accepted month fits its field.
 module _ (m : Month) (w : MonthLimits m) where
@@ -75,15 +104,18 @@ module _ (m : Month) (w : MonthLimits m) where
     rows = holds_right out 0 (laid (head_fields m.header)) _ (omega (arith, length_head m)) (holds_left out 0 _ _ to_consumers)
 
     row : (j : ℕ) → j < m.header.rows → Holds out (row_record_at j) (row_record m j)
-    row j l = unfold row_record_at in held_record (row_record m) 16 (length-row m) out 5 m.header.rows rows j l
+    row j l =
+        unfold row_record_at in held_record (row_record m) 16 (length-row m) out 5 m.header.rows rows j l
 
     consumers : Holds out (row_record_at m.header.rows) (joined (consumer_record m) m.header.consumers)
     consumers = holds_right out 0 (laid (head_fields m.header) ++ joined (row_record m) m.header.rows) _ past to_consumers
       where
-        past : 0 + length (laid (head_fields m.header) ++ joined (row_record m) m.header.rows) ≡ row_record_at m.header.rows
+        past : 0 + length (laid (head_fields m.header) ++ joined (row_record m) m.header.rows)
+            ≡ row_record_at m.header.rows
         past = unfold row_record_at in simp (length-append, length_head m, length-rows m) (omega arith)
 
-    consumer : (c : ℕ) → c < m.header.consumers → Holds out (consumer_record_at m.header c) (consumer_record m c)
+    consumer : (c : ℕ) → c < m.header.consumers
+        → Holds out (consumer_record_at m.header c) (consumer_record m c)
     consumer c l =
         unfold consumer_record_at in held_record (consumer_record m) 25 (length-consumer m) out (row_record_at m.header.rows) m.header.consumers consumers c l
 

@@ -15,7 +15,27 @@ use Rattle.rules.specs.declared.Series.{Series}
 use Rattle.rules.specs.Month.{hours}
 use Rattle.rules.specs.Limits.{FormLimits}
 use Rattle.rules.specs.Fields.{big_endian, bytes_from, bytes_of, joined, over_at}
-use Rattle.rules.specs.Sheet.{length_field, version, header_of, layout_of, month_of, producer_at, hours_at, hour_series, power_at, states_days, row_width, row_at, consumer_at, sheet_length, with_contracts, with_peak, column, in_columns, rearranged}
+use Rattle.rules.specs.Sheet.{
+  length_field,
+  version,
+  header_of,
+  layout_of,
+  month_of,
+  producer_at,
+  hours_at,
+  hour_series,
+  power_at,
+  states_days,
+  row_width,
+  row_at,
+  consumer_at,
+  sheet_length,
+  with_contracts,
+  with_peak,
+  column,
+  in_columns,
+  rearranged,
+}
 use Rattle.rules.specs.Refusals.{form_tests, first_of}
 use Rattle.rules.specs.Outcome.{lent_after}
 use Rattle.rules.specs.TransferList.{entries}
@@ -25,7 +45,16 @@ use Rattle.rules.specs.Averaging.{complex_peak, peak_written, average_refusal, a
 use Rattle.laws.proofs.Arrays.{get_or-listed}
 use Rattle.laws.proofs.Fields.{length-bytes_of, same_bytes}
 use Rattle.laws.proofs.Sheet.{Spans, series_span, span_ends, consumer_inside, length-from, header_same}
-use Rattle.laws.proofs.Written.{length-over_at, over_at_holds, over_at_keeps, Outside, Room, length-contracts, contracts_keep, contracts_same}
+use Rattle.laws.proofs.Written.{
+  length-over_at,
+  over_at_holds,
+  over_at_keeps,
+  Outside,
+  Room,
+  length-contracts,
+  contracts_keep,
+  contracts_same,
+}
 use Rattle.laws.proofs.Refusals.{form_clear}
 use Rattle.laws.proofs.Transfers.{after_same, applied_limits}
 use Rattle.laws.proofs.Averaging.{averaged_limits}
@@ -44,7 +73,8 @@ module _ (r at : ℕ) (p x y : List ℕ) (fits : at + length p ≤ length x) (fi
       kept : (at ≤ i → at + length p ≤ i) → get_or (over_at at p x) i 0 ≡ get_or (over_at at p y) i 0
       kept o = over_at_keeps at p x fits i o ∙ same i q ∙ sym (over_at_keeps at p y fits' i o)
 
-      go : (a b : Bool) → ltb i at ≡ a → ltb i (at + length p) ≡ b → get_or (over_at at p x) i 0 ≡ get_or (over_at at p y) i 0
+      go : (a b : Bool) → ltb i at ≡ a → ltb i (at + length p) ≡ b
+          → get_or (over_at at p x) i 0 ≡ get_or (over_at at p y) i 0
       go true b e f = kept (λ o. absurd (omega (arith, ltb-true i at e)))
       go false false e f = kept (λ o. ltb-false i (at + length p) f)
       go false true e f =
@@ -54,7 +84,8 @@ module _ (r at : ℕ) (p x y : List ℕ) (fits : at + length p ≤ length x) (fi
 
 -- A rearrangement in two parts: what stands before the rows, and the bytes behind.
 abbrev front_of : Layout → List ℕ → List ℕ
-front_of l x = OtherVersion.front (length_field x) 3 ++ (bytes_from x 5 9 ++ joined (in_columns l x) l.header.producers)
+front_of l x =
+    OtherVersion.front (length_field x) 3 ++ (bytes_from x 5 9 ++ joined (in_columns l x) l.header.producers)
 
 abbrev behind : Layout → List ℕ → List ℕ
 behind l x = bytes_from x (row_at l 0) (sheet_length l - row_at l 0)
@@ -67,7 +98,8 @@ byte_from : (s : List ℕ) (at n i : ℕ) → i < n → get_or (bytes_from s at 
 unfolding bytes_from
 byte_from s at n i l = get_or-listed 0 _ n i l
 
-bytes_same : (t s : List ℕ) (at n : ℕ) → ((i : ℕ) → i < n → get_or t (at + i) 0 ≡ get_or s (at + i) 0) → bytes_from t at n ≡ bytes_from s at n
+bytes_same : (t s : List ℕ) (at n : ℕ) → ((i : ℕ) → i < n → get_or t (at + i) 0 ≡ get_or s (at + i) 0)
+    → bytes_from t at n ≡ bytes_from s at n
 bytes_same t s at n h =
     ext_get_or 0 (bytes_from t at n) (bytes_from s at n) (length-from t at n ∙ sym (length-from s at n))
     (λ i l. let b = rw (length-from t at n) at l in byte_from t at n i b ∙ h i b ∙ sym (byte_from s at n i b))
@@ -105,7 +137,8 @@ module _ (s t : List ℕ) (form : FormLimits s) (second : version s ≡ 2) where
       ends : hours_at l p + 288 * (header_of s).days ≤ r
       ends = unfold row_at hours_at producer_at in omega (arith, mul-le-mul_right (42 + 288 * (header_of s).days) below)
 
-      column_same : (x : Series) → Spans (header_of s) x → column t (hours_at l p) (hours (header_of s)) x ≡ column s (hours_at l p) (hours (header_of s)) x
+      column_same : (x : Series) → Spans (header_of s) x
+          → column t (hours_at l p) (hours (header_of s)) x ≡ column s (hours_at l p) (hours (header_of s)) x
       unfolding column
       column_same x spans = joined_same _ _ (hours (header_of s)) (λ i b. part_same (power_at (hours_at l p) x i) 4 (omega (arith, ends, span_ends (header_of s) x spans i b)))
 
@@ -125,21 +158,36 @@ module _ (s t : List ℕ) (form : FormLimits s) (second : version s ≡ 2) where
     length_field_same = front_field 4 0 (omega (arith, rows_from))
 
     front_same : front_of l t ≡ front_of l s
-    front_same = rw (length_field_same, part_same 5 9 (omega (arith, rows_from)), joined_same (in_columns l t) (in_columns l s) (header_of s).producers producer_same)
+    front_same =
+        rw (
+          length_field_same,
+          part_same 5 9 (omega (arith, rows_from)),
+          joined_same (in_columns l t) (in_columns l s) (header_of s).producers producer_same,
+        )
 
     rearranged_t : rearranged t ≡ front_of l s ++ behind l t
     rearranged_t = in_two t ∙ ap (λ (x : Layout). front_of x t ++ behind x t) same_layout ∙ ap (λ (a : List ℕ). a ++ behind l t) front_same
 
     length_front : length (front_of l s) ≡ r
     length_front =
-        simp (length-append, OtherVersion.length_front (length_field s) 3, length-from, Version3.length-producers s form second)
+        simp (
+          length-append,
+          OtherVersion.length_front (length_field s) 3,
+          length-from,
+          Version3.length-producers s form second,
+        )
         (omega (arith, Version3.rows_at s form second, mul_comm (header_of s).producers (42 + 288 * (header_of s).days)))
 
     length-rearranged : length (rearranged t) ≡ sheet_length l
     length-rearranged =
         ap length rearranged_t
         ∙ length-append (front_of l s) (behind l t)
-        ∙ omega (arith, length_front, length-from t r (sheet_length l - r), Version3.rows_inside s form second)
+        ∙ omega (
+          arith,
+          length_front,
+          length-from t r (sheet_length l - r),
+          Version3.rows_inside s form second,
+        )
 
     -- A byte before the rows is that of the rearrangement of s, one behind them that of t.
     byte_front : (i : ℕ) → i < r → get_or (rearranged t) i 0 ≡ get_or (front_of l s) i 0
@@ -157,12 +205,14 @@ module _ (s t : List ℕ) (form : FormLimits s) (second : version s ≡ 2) where
         ∙ ap (λ (k : ℕ). get_or t k 0) e'
 
     -- The list with the bytes of the one before the rows, and of the other behind them.
-    pub is_rearranged : (u : List ℕ) → length u ≡ sheet_length l → ((i : ℕ) → i < r → get_or u i 0 ≡ get_or (front_of l s) i 0)
+    pub is_rearranged : (u : List ℕ) → length u ≡ sheet_length l
+        → ((i : ℕ) → i < r → get_or u i 0 ≡ get_or (front_of l s) i 0)
         → ((i : ℕ) → r ≤ i → get_or u i 0 ≡ get_or t i 0) → u ≡ rearranged t
     is_rearranged u long before after =
         ext_get_or 0 u (rearranged t) (long ∙ sym length-rearranged) (λ i b. go i (rw long at b) (ltb i r) refl)
       where
-        go : (i : ℕ) → i < sheet_length l → (b : Bool) → ltb i r ≡ b → get_or u i 0 ≡ get_or (rearranged t) i 0
+        go : (i : ℕ) → i < sheet_length l → (b : Bool) → ltb i r ≡ b
+            → get_or u i 0 ≡ get_or (rearranged t) i 0
         go i q true e = let b = ltb-true i r e in before i b ∙ sym (byte_front i b)
         go i q false e = let b = ltb-false i r e in after i b ∙ sym (byte_behind i b q)
 
@@ -216,7 +266,8 @@ module _ (s : List ℕ) (form : FormLimits s) (second : version s ≡ 2) where
     room' : (n : ℕ) → n ≤ count → Room after v (rearranged s) n
     room' n few c b = omega (arith, inside' c (omega arith))
 
-    same_from : (n : ℕ) → n ≤ count → (i : ℕ) → row_at before 0 ≤ i → get_or (with_contracts after v n (rearranged s)) i 0 ≡ get_or (with_contracts before v n s) i 0
+    same_from : (n : ℕ) → n ≤ count → (i : ℕ) → row_at before 0 ≤ i
+        → get_or (with_contracts after v n (rearranged s)) i 0 ≡ get_or (with_contracts before v n s) i 0
     unfolding with_contracts
     same_from zero few i b = same_behind i b
     same_from (suc n) few i b =
@@ -227,10 +278,12 @@ module _ (s : List ℕ) (form : FormLimits s) (second : version s ≡ 2) where
         (rw length-bytes_of (omega (arith, inside n few, length-contracts before v s n (room n least))))
         (same_from n least) i b)
 
-    outside : (l : Layout) → ((c : ℕ) → consumer_at l c ≡ consumer_at before c) → (n i : ℕ) → i < row_at before 0 → Outside l n i
+    outside : (l : Layout) → ((c : ℕ) → consumer_at l c ≡ consumer_at before c) → (n i : ℕ)
+        → i < row_at before 0 → Outside l n i
     outside l there n i b c q from = absurd (omega (arith, there c, consumers_from c))
 
-    contracts_rearranged : (n : ℕ) → n ≤ count → with_contracts after v n (rearranged s) ≡ rearranged (with_contracts before v n s)
+    contracts_rearranged : (n : ℕ) → n ≤ count
+        → with_contracts after v n (rearranged s) ≡ rearranged (with_contracts before v n s)
     contracts_rearranged n few =
         is_rearranged s (with_contracts before v n s) form second
         (λ i b. contracts_keep before v s n (room n few) i (outside before (λ c. refl) n i b))
@@ -271,7 +324,8 @@ module _ (s : List ℕ) (form : FormLimits s) (second : version s ≡ 2) where
   header_after : header_of (rearranged s) ≡ header_of s
   header_after = alike.header
 
-  lent_alike : (number : ℕ) {number' : ℕ} (changed changed' : List ℕ) → number' ≡ number → (number ≡ 0 → changed' ≡ rearranged changed)
+  lent_alike : (number : ℕ) {number' : ℕ} (changed changed' : List ℕ) → number' ≡ number
+      → (number ≡ 0 → changed' ≡ rearranged changed)
       → lent_after number' changed' (rearranged s) ≡ rearranged (lent_after number changed s)
   unfolding lent_after
   lent_alike number changed changed' e same = rw e (go (eqb number 0) refl)
@@ -289,7 +343,8 @@ module _ (s : List ℕ) (form : FormLimits s) (second : version s ≡ 2) where
       changed : List ℕ → List ℕ
       changed x = with_contracts (layout_of x) (volumes_after (month_of x) list) (header_of x).consumers x
 
-      same_volumes : transfer_refusal s list ≡ 0 → (c : ℕ) → c < count → volumes_after (month_of (rearranged s)) list c ≡ volumes_after (month_of s) list c
+      same_volumes : transfer_refusal s list ≡ 0 → (c : ℕ) → c < count
+          → volumes_after (month_of (rearranged s)) list c ≡ volumes_after (month_of s) list c
       same_volumes none c b =
           unfold volumes_after in
           after_same list count (applied_limits s list none).1.names (contracts (month_of (rearranged s))) (contracts (month_of s))

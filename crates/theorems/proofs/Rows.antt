@@ -1,5 +1,5 @@
--- A row whose producer is worse, has the same rows, and keeps its attested capacity where they are more than one, has no larger volume and no
--- larger payment. Assumes nothing.
+-- A row whose producer is worse, has the same rows, and keeps its attested capacity where they are more than
+-- one, has no larger volume and no larger payment. Assumes nothing.
 use mathlib.Core.Path.{◌≡◌, refl, sym, ap, ap₂, ◌∙◌}
 use mathlib.Core.Bool.{Bool, true, false, not, ◌&&◌}
 use mathlib.Core.List.{List}
@@ -13,7 +13,22 @@ use Rattle.rules.specs.declared.Header.{Header}
 use Rattle.rules.specs.declared.Ratio.{Ratio}
 use Rattle.rules.specs.declared.Row.{Row}
 use Rattle.rules.specs.Month.{Month, hours}
-use Rattle.rules.specs.Cut.{owns, support, bilateral, sold, own_volume, own_support, own_bilateral, support_volume, bilateral_volume, summed_capacity, excess, after_cut, row_count, single}
+use Rattle.rules.specs.Cut.{
+  owns,
+  support,
+  bilateral,
+  sold,
+  own_volume,
+  own_support,
+  own_bilateral,
+  support_volume,
+  bilateral_volume,
+  summed_capacity,
+  excess,
+  after_cut,
+  row_count,
+  single,
+}
 use Rattle.rules.specs.Coefficients.{support_after, capacity_after, coefficients}
 use Rattle.rules.specs.Rows.{begun, factors, running, days_covered, for_days, through, actual, payment}
 use Rattle.laws.proofs.Range.{sum_same}
@@ -71,14 +86,16 @@ module _ (m m' : Month) (e : m'.header ≡ m.header) (p : ℕ) (r : SameRowsOf m
     unfolding bilateral_volume own_bilateral owns bilateral support when
     same_bilateral = sum_same _ _ same_count (own_same m m' p r v v' same (λ b x n. when (b && not (eqb x.consumer 255)) n) (λ x n. refl))
 
-    same_summed : (m'.producer p).deductible ≡ (m.producer p).deductible → summed_capacity m' v' p ≡ summed_capacity m v p
+    same_summed : (m'.producer p).deductible ≡ (m.producer p).deductible
+        → summed_capacity m' v' p ≡ summed_capacity m v p
     unfolding summed_capacity
     same_summed d = omega (arith, same_support, same_bilateral, d)
 
   same_sold : SameOwn m p (sold m) (sold m')
   same_sold j l own = ap (λ (x : Row). x.volume) (r.own j l own)
 
-  same_before : (j : ℕ) → j < m.header.rows → sum (own_volume m' (sold m') p) j ≡ sum (own_volume m (sold m) p) j
+  same_before : (j : ℕ) → j < m.header.rows
+      → sum (own_volume m' (sold m') p) j ≡ sum (own_volume m (sold m) p) j
   unfolding own_volume owns when
   same_before j l = sum_same _ _ refl (λ i q. own_same m m' p r (sold m) (sold m') same_sold (λ b x n. when b n) (λ x n. refl) i (omega arith))
 
@@ -95,12 +112,22 @@ module _ (m m' : Month) (e : m'.header ≡ m.header) (p : ℕ) (r : SameRowsOf m
     (w : WorseProducer (hours m.header) (m.producer p) (m'.producer p)) where
   excess_is : excess m' p ≡ summed_capacity m (sold m) p - (m.producer p).own_needs - (m'.producer p).attested
   unfolding excess
-  excess_is = omega (arith, same_summed m m' e p r (sold m) (sold m') (same_sold m m' e p r) w.deductible, w.own_needs)
+  excess_is =
+      omega (
+        arith,
+        same_summed m m' e p r (sold m) (sold m') (same_sold m m' e p r) w.deductible,
+        w.own_needs,
+      )
 
   cut_is : (j : ℕ) → j < m.header.rows → (m.row j).producer ≡ p
       → after_cut m' j ≡ (m.row j).volume - (excess m' p - sum (own_volume m (sold m) p) j)
   cut_is j l own =
-      omega (arith, own_after m' p j (r.owner j l ∙ own), same_sold m m' e p r j l own, same_before m m' e p r j l)
+      omega (
+        arith,
+        own_after m' p j (r.owner j l ∙ own),
+        same_sold m m' e p r j l own,
+        same_before m m' e p r j l,
+      )
 
   -- A lower attested capacity leaves no more of a row.
   own_cut_down : (j : ℕ) → j < m.header.rows → (m.row j).producer ≡ p → after_cut m' j ≤ after_cut m j
@@ -140,10 +167,12 @@ module _ (m m' : Month) (e : m'.header ≡ m.header) (j : ℕ) (l : j < m.header
     kept q = keeps (omega (arith, own_counted m p j l refl, eqb-false (row_count m p) 1 q))
 
     -- What the product begins with is no larger, and neither is any coefficient after it.
-    product_down : (begun m' p (after_cut m' j) ≤ begun m p (after_cut m j)) × NoMore (factors m' p) (factors m p)
+    product_down : (begun m' p (after_cut m' j) ≤ begun m p (after_cut m j))
+        × NoMore (factors m' p) (factors m p)
     product_down = go (single m p) refl
       where
-        go : (b : Bool) → single m p ≡ b → (begun m' p (after_cut m' j) ≤ begun m p (after_cut m j)) × NoMore (factors m' p) (factors m p)
+        go : (b : Bool) → single m p ≡ b
+            → (begun m' p (after_cut m' j) ≤ begun m p (after_cut m j)) × NoMore (factors m' p) (factors m p)
         go true q = (
           begun_down m m' e p q (same_single m m' e p r ∙ q) w j l refl this cut_down,
           unfold factors in rw (same_single m m' e p r, q) (others_down e w),
@@ -155,7 +184,8 @@ module _ (m m' : Month) (e : m'.header ≡ m.header) (j : ℕ) (l : j < m.header
 
     pub actual_down : actual m' j ≤ actual m j
     unfolding actual
-    actual_down = rw this (through_mono product_down.1 (m.row j) (ap (λ (h : Header). h.days) e) product_down.0)
+    actual_down =
+        rw this (through_mono product_down.1 (m.row j) (ap (λ (h : Header). h.days) e) product_down.0)
 
     pub payment_down : payment m' j ≤ payment m j
     unfolding payment

@@ -1,4 +1,5 @@
--- Sheets past number 6 that state the same figures get the same answers, whatever their versions. Assumes nothing.
+-- Sheets past number 6 that state the same figures get the same answers, whatever their versions. Assumes
+-- nothing.
 use mathlib.Core.Path.{◌≡◌, sym, ap, ◌∙◌}
 use mathlib.Core.Bool.{Bool, false}
 use mathlib.Core.List.{List, ◌++◌, append_assoc}
@@ -16,7 +17,26 @@ use Rattle.rules.specs.Fields.{over}
 use Rattle.rules.specs.Sheet.{version, header_of, layout_of, month_of, states_days, day_at}
 use Rattle.rules.specs.Result.{result_length, result_of}
 use Rattle.rules.specs.Limits.{MonthLimits}
-use Rattle.rules.specs.Refusals.{bad_share, high_hour, high_producer, high_row, high_consumer, bad_reference, too_dear, bad_factor, bad_days, Test, form_tests, room_tests, figure_tests, sheet_tests, tests_for, tests, first_of, refusal}
+use Rattle.rules.specs.Refusals.{
+  bad_share,
+  high_hour,
+  high_producer,
+  high_row,
+  high_consumer,
+  bad_reference,
+  too_dear,
+  bad_factor,
+  bad_days,
+  Test,
+  form_tests,
+  room_tests,
+  figure_tests,
+  sheet_tests,
+  tests_for,
+  tests,
+  first_of,
+  refusal,
+}
 use Rattle.rules.specs.Outcome.{Accepted, outcome, buffer_after}
 use Rattle.rules.specs.Text2015.{factor_2015, volume_2015, charge_2015}
 use Rattle.rules.specs.Result2015.{length_2015, record_2015, result_2015}
@@ -39,9 +59,11 @@ same_share : (h : Header) {p p' : Producer} → SameProducer (hours h) p p' → 
 unfolding bad_share
 same_share h a = rw (a.no_upward_bid, a.no_downward_bid, a.no_plan, a.k3, a.k6, a.k7, a.k8, a.k9, a.k10)
 
-same_high : (h : Header) {p p' : Producer} → SameProducer (hours h) p p' → high_producer h p' ≡ high_producer h p
+same_high : (h : Header) {p p' : Producer} → SameProducer (hours h) p p'
+    → high_producer h p' ≡ high_producer h p
 unfolding high_producer high_hour
-same_high h {p} {p'} a = rw (a.attested, a.deductible, a.own_needs, any_same (high_hour p') (high_hour p) (hours h) hour)
+same_high h {p} {p'} a =
+    rw (a.attested, a.deductible, a.own_needs, any_same (high_hour p') (high_hour p) (hours h) hour)
   where
     hour : (i : ℕ) → i < hours h → high_hour p' i ≡ high_hour p i
     hour i l = rw (a.working i l, a.possible i l, a.outside_use i l)
@@ -91,7 +113,8 @@ module _ (m m' : Month) (a : Alike m m') where
 -- Two sheets past number 6.
 module _ (s s' : List ℕ) (form : first_of (form_tests s) ≡ 0) (form' : first_of (form_tests s') ≡ 0) (a : Alike (month_of s) (month_of s')) where
   -- What is left of the numbers there.
-  rest : (needed room : ℕ) (x : List ℕ) → first_of (form_tests x) ≡ 0 → first_of (tests_for needed x room) ≡ first_of (room_tests needed room ++ figure_tests (month_of x))
+  rest : (needed room : ℕ) (x : List ℕ) → first_of (form_tests x) ≡ 0
+      → first_of (tests_for needed x room) ≡ first_of (room_tests needed room ++ figure_tests (month_of x))
   unfolding tests_for
   rest needed room x f =
       ap first_of (append_assoc (form_tests x) (room_tests needed room) (figure_tests (month_of x)))
@@ -121,13 +144,19 @@ module _ (s s' : List ℕ) (form : first_of (form_tests s) ≡ 0) (form' : first
       ∙ first_next (form_tests s) (figure_tests (month_of s)) (form_numbered s) form
 
   -- Entries that try others after the sheet's own.
-  then_same : (ts' ts : List Test) → first_of ts' ≡ first_of ts → first_of (sheet_tests s' ++ ts') ≡ first_of (sheet_tests s ++ ts)
+  then_same : (ts' ts : List Test) → first_of ts' ≡ first_of ts
+      → first_of (sheet_tests s' ++ ts') ≡ first_of (sheet_tests s ++ ts)
   then_same ts' ts e =
-      first_append (sheet_tests s') ts' (sheet_numbered s') ∙ rw (own_same, e) (sym (first_append (sheet_tests s) ts (sheet_numbered s)))
+      first_append (sheet_tests s') ts' (sheet_numbered s') ∙ rw (
+        own_same,
+        e,
+      )
+      (sym (first_append (sheet_tests s) ts (sheet_numbered s)))
 
   pub transfer_refusal_same : (list : List ℕ) → transfer_refusal s' list ≡ transfer_refusal s list
   unfolding transfer_refusal transfer_tests
-  transfer_refusal_same list = then_same _ _ (list_same s s' list a.header (λ c l. ap (λ (k : Consumer). k.contract) (a.consumer c l)))
+  transfer_refusal_same list =
+      then_same _ _ (list_same s s' list a.header (λ c l. ap (λ (k : Consumer). k.contract) (a.consumer c l)))
 
   pub average_refusal_same : (r : List ℕ) → average_refusal s' r ≡ average_refusal s r
   unfolding average_refusal average_tests
@@ -161,7 +190,8 @@ module _ (s s' : List ℕ) (form : first_of (form_tests s) ≡ 0) (form' : first
     refusal_with = ap (refusal s') long ∙ refusal_same (length out)
 
     -- An accepted sheet's result stands in front of its buffer.
-    in_front : (x buffer : List ℕ) → Accepted x (length buffer) → take (result_length (header_of x)) (buffer_after x buffer) ≡ result_of (month_of x)
+    in_front : (x buffer : List ℕ) → Accepted x (length buffer)
+        → take (result_length (header_of x)) (buffer_after x buffer) ≡ result_of (month_of x)
     unfolding buffer_after over
     in_front x buffer ok =
         ap (take (result_length (header_of x))) (is_changed (refusal x (length buffer)) (unfold over in over (result_of (month_of x)) buffer) buffer ok)
@@ -191,7 +221,9 @@ module _ (s s' : List ℕ) (full : FullRows s s') where
 
   row_alike : (j : ℕ) → j < (header_of s).rows → (month_of s').row j ≡ (month_of s).row j
   unfolding day_at
-  row_alike j l = let r = full.row j l in rw (no_days, r.producer, r.consumer, r.volume, r.price, r.first, r.last)
+  row_alike j l =
+      let r = full.row j l in rw (no_days, r.producer, r.consumer, r.volume, r.price, r.first, r.last)
 
   pub full_alike : Alike (month_of s) (month_of s')
-  full_alike = record { header = full.header; producer = full.producer; row = row_alike; consumer = full.consumer }
+  full_alike =
+      record { header = full.header; producer = full.producer; row = row_alike; consumer = full.consumer }

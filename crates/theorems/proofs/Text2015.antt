@@ -1,5 +1,5 @@
--- The text of 2015: its result has the length it states, every figure fits and is read back, and higher peaks never lower a figure.
--- Assumes nothing.
+-- The text of 2015: its result has the length it states, every figure fits and is read back, and higher peaks
+-- never lower a figure. Assumes nothing.
 use mathlib.Core.Path.{◌≡◌, sym, ap}
 use mathlib.Core.List.{List}
 use Prim.Native.Nat.{ℕ, ◌*◌, ◌≤◌, ◌<◌}
@@ -12,14 +12,38 @@ use Rattle.rules.specs.Month.{Month}
 use Rattle.rules.specs.Limits.{MonthLimits}
 use Rattle.rules.specs.Fields.{big_endian, laid, joined, over}
 use Rattle.rules.specs.Sheet.{header_of, month_of}
-use Rattle.rules.specs.Text2015.{excess_of, bands_2015, factor_for, volume_for, factor_2015, volume_2015, charge_2015}
-use Rattle.rules.specs.Result2015.{figures_2015, fields_2015, length_2015, head_2015, record_2015, result_2015, record_2015_at, read_2015}
+use Rattle.rules.specs.Text2015.{
+  excess_of,
+  bands_2015,
+  factor_for,
+  volume_for,
+  factor_2015,
+  volume_2015,
+  charge_2015,
+}
+use Rattle.rules.specs.Result2015.{
+  figures_2015,
+  fields_2015,
+  length_2015,
+  head_2015,
+  record_2015,
+  result_2015,
+  record_2015_at,
+  read_2015,
+}
 use Rattle.rules.specs.Result.{result_length}
 use Rattle.rules.specs.Outcome.{Accepted}
 use Rattle.rules.specs.Outcome2015.{tests_2015, refusal_2015, Accepted2015, Limits2015, buffer_after_2015}
 use Rattle.laws.proofs.Units.{rounded_mono, money_mono}
 use Rattle.laws.proofs.Fields.{Holds, holds_left, holds_right, Fit, read_laid, length-joined, held_record}
-use Rattle.laws.proofs.Text2015.{factor_2015-le, volume_2015-le, charge_2015-le, length_2015-le, length-head_2015, length-record_2015}
+use Rattle.laws.proofs.Text2015.{
+  factor_2015-le,
+  volume_2015-le,
+  charge_2015-le,
+  length_2015-le,
+  length-head_2015,
+  length-record_2015,
+}
 use Rattle.laws.proofs.Refusals.{limits, limits_for, for_limits}
 use Rattle.laws.proofs.Answers.{is_changed}
 use Rattle.theorems.specs.Demand3.{WorseSheet}
@@ -111,12 +135,14 @@ module _ (s : List ℕ) (room : ℕ) where
       let l = limits s room a in
       limits_accepted (record { form = l.form; enough_room = unfold length_2015 result_length in omega (arith, l.enough_room); month = l.month })
 
-pub begins : (s out : List ℕ) → Accepted2015 s (length out) → Holds (buffer_after_2015 s out) 0 (result_2015 (month_of s))
+pub begins : (s out : List ℕ) → Accepted2015 s (length out)
+    → Holds (buffer_after_2015 s out) 0 (result_2015 (month_of s))
 unfolding buffer_after_2015
 begins s out a = over_begins (result_2015 (month_of s)) out (is_changed (refusal_2015 s (length out)) (over (result_2015 (month_of s)) out) out a)
 
 -- Higher peaks: no figure of the second result is lower.
-pub no_lower : (s s' out out' : List ℕ) → Accepted2015 s (length out) → Accepted2015 s' (length out') → HigherPeaks s s'
+pub no_lower : (s s' out out' : List ℕ) → Accepted2015 s (length out) → Accepted2015 s' (length out')
+    → HigherPeaks s s'
     → NoLower2015 (header_of s) (buffer_after_2015 s out) (buffer_after_2015 s' out')
 no_lower s s' out out' a a' w =
     let m = month_of s in

@@ -1,4 +1,5 @@
--- A sheet with other contract volumes: what is kept, and that its month is the old one with those volumes. Assumes nothing.
+-- A sheet with other contract volumes: what is kept, and that its month is the old one with those volumes.
+-- Assumes nothing.
 use mathlib.Core.Path.{◌≡◌, refl, sym, ap, ◌∙◌}
 use mathlib.Core.Bool.{Bool, true, false, cond}
 use mathlib.Core.List.{List, ◌++◌}
@@ -15,26 +16,54 @@ use Rattle.rules.specs.Units.{tenths_ceiling}
 use Rattle.rules.specs.Limits.{FormLimits, ConsumerLimits, MonthLimits}
 use Rattle.rules.specs.Cut.{owns, row_count}
 use Rattle.rules.specs.Fields.{big_endian, over}
-use Rattle.rules.specs.Sheet.{header_of, layout_of, month_of, consumer_at, consumer_of, contract_at, with_contracts}
+use Rattle.rules.specs.Sheet.{
+  header_of,
+  layout_of,
+  month_of,
+  consumer_at,
+  consumer_of,
+  contract_at,
+  with_contracts,
+}
 use Rattle.rules.specs.Result.{result_of}
 use Rattle.rules.specs.Refusals.{sheet_tests, first_of}
 use Rattle.rules.specs.Outcome.{Accepted, buffer_after}
 use Rattle.rules.specs.TransferList.{entries}
-use Rattle.rules.specs.Transfers.{contracts, list_tests, turn_tests, transfer_tests, transfer_refusal, transfer_outcome, volumes_after, transferred, with_volumes}
+use Rattle.rules.specs.Transfers.{
+  contracts,
+  list_tests,
+  turn_tests,
+  transfer_tests,
+  transfer_refusal,
+  transfer_outcome,
+  volumes_after,
+  transferred,
+  with_volumes,
+}
 use Rattle.laws.proofs.Range.{sum_same}
 use Rattle.laws.proofs.Fields.{same_bytes}
 use Rattle.laws.proofs.Sheet.{consumer_inside}
 use Rattle.laws.proofs.Refusals.{first_append, first_next, sheet_numbered, sheet_clear, limits}
 use Rattle.laws.proofs.Written.{Outside, Room, length-contracts, contracts_keep, contract_read}
 use Rattle.laws.proofs.Answers as Answers
-use Rattle.laws.proofs.Transfers.{AllNamed, list_numbered, names_clear, applied_limits, after_same, turns_same, sum_after, after_within}
+use Rattle.laws.proofs.Transfers.{
+  AllNamed,
+  list_numbered,
+  names_clear,
+  applied_limits,
+  after_same,
+  turns_same,
+  sum_after,
+  after_within,
+}
 use Rattle.theorems.specs.Demand3.{Worse, MoreRowsKeepAttested, WorseSheet, NoBetter}
 use Rattle.theorems.specs.Request1.{contract_sum, OnlyContracts}
 use Rattle.theorems.proofs.Demand3.{same_header, over_begins, months_no_better}
 use Rattle.theorems.proofs.Demand3 as Demand3
 use Rattle.theorems.proofs.OtherConsumers as Other
 
--- What stands before the consumers belongs to no contract volume, and neither does a consumer's other figures.
+-- What stands before the consumers belongs to no contract volume, and neither does a consumer's other
+-- figures.
 front_outside : (l : Layout) (n i : ℕ) → i < contract_at l 0 → Outside l n i
 unfolding consumer_at
 front_outside l n i b c k e = omega arith
@@ -61,7 +90,8 @@ module _ (s : List ℕ) (form : FormLimits s) (v : ℕ → ℕ) where
   front_kept i b = kept i (front_outside (layout_of s) (header_of s).consumers i b)
 
   -- A figure of consumer c past its contract volume.
-  rest : (c w k : ℕ) → 4 ≤ k → k + w ≤ 15 → big_endian w after (consumer_at (layout_of s) c + k) ≡ big_endian w s (consumer_at (layout_of s) c + k)
+  rest : (c w k : ℕ) → 4 ≤ k → k + w ≤ 15 → big_endian w after (consumer_at (layout_of s) c + k)
+      ≡ big_endian w s (consumer_at (layout_of s) c + k)
   rest c w k a b =
       same_bytes w after s (consumer_at (layout_of s) c + k) (consumer_at (layout_of s) c + k)
       (λ i q.
@@ -70,7 +100,8 @@ module _ (s : List ℕ) (form : FormLimits s) (v : ℕ → ℕ) where
 
   -- The consumers are the old ones with these volumes, where they are within the ceiling.
   module _ (small : (c : ℕ) → c < (header_of s).consumers → v c ≤ tenths_ceiling) where
-    consumers_read : (c : ℕ) → c < (header_of s).consumers → consumer_of after (consumer_at (layout_of s) c) ≡ (with_volumes (month_of s) v).consumer c
+    consumers_read : (c : ℕ) → c < (header_of s).consumers
+        → consumer_of after (consumer_at (layout_of s) c) ≡ (with_volumes (month_of s) v).consumer c
     consumers_read c b =
         rw (
           contract_read (layout_of s) v s (header_of s).consumers room c b (omega (arith, small c b)),
@@ -81,7 +112,8 @@ module _ (s : List ℕ) (form : FormLimits s) (v : ℕ → ℕ) where
           rest c 4 11 (omega arith) (omega arith),
         )
 
-    fine : MonthLimits (month_of s) → (c : ℕ) → c < (header_of s).consumers → ConsumerLimits (header_of s) ((with_volumes (month_of s) v).consumer c)
+    fine : MonthLimits (month_of s) → (c : ℕ) → c < (header_of s).consumers
+        → ConsumerLimits (header_of s) ((with_volumes (month_of s) v).consumer c)
     fine w c b =
         let k = w.consumer c b in
         record {
@@ -135,14 +167,16 @@ module _ (s t : List ℕ) where
     before : (i : ℕ) → i < consumer_at (layout_of s) 0 → get_or applied_sheet i 0 ≡ get_or s i 0
     before = front_kept s form volumes
 
-    read : (c : ℕ) → c < (header_of s).consumers → consumer_of applied_sheet (consumer_at (layout_of s) c) ≡ consumers c
+    read : (c : ℕ) → c < (header_of s).consumers
+        → consumer_of applied_sheet (consumer_at (layout_of s) c) ≡ consumers c
     read = consumers_read s form volumes small
 
     within : (c : ℕ) → c < (header_of s).consumers → ConsumerLimits (header_of s) (consumers c)
     within = fine s form volumes small month_kept
 
     -- Its volumes are read from the sheet, and their sum is what it was.
-    pub volumes_read : (c : ℕ) → c < (header_of s).consumers → contracts (month_of applied_sheet) c ≡ volumes c
+    pub volumes_read : (c : ℕ) → c < (header_of s).consumers
+        → contracts (month_of applied_sheet) c ≡ volumes c
     volumes_read c b = ap (λ (k : Consumer). k.contract) ((Other.alike_after s applied_sheet long before consumers read).consumer c b)
 
     same_sum : contract_sum applied_sheet ≡ contract_sum s
@@ -160,7 +194,8 @@ module _ (s t : List ℕ) where
     unfolding transferred
     is_applied = Answers.is_changed (transfer_refusal s t) applied_sheet s none
 
-    pub settled : (out : List ℕ) → Accepted s (length out) → buffer_after (transferred s t) out ≡ over (result_of (with_volumes (month_of s) volumes)) out
+    pub settled : (out : List ℕ) → Accepted s (length out)
+        → buffer_after (transferred s t) out ≡ over (result_of (with_volumes (month_of s) volumes)) out
     settled out a =
         ap (λ (x : List ℕ). buffer_after x out) is_applied
         ∙ Other.settled s applied_sheet long before consumers read form within out a
@@ -187,7 +222,9 @@ module _ (s s' t : List ℕ) (heads : header_of s' ≡ header_of s) (contracts_a
       ∙ go (eqb (first_of (list_tests (header_of s).consumers t)) 0) refl
       ∙ sym (first_append (list_tests (header_of s).consumers t) (turn_tests (contracts (month_of s)) t) (list_numbered _ t))
     where
-      turns : first_of (list_tests (header_of s).consumers t) ≡ 0 → first_of (turn_tests (contracts (month_of s')) t) ≡ first_of (turn_tests (contracts (month_of s)) t)
+      turns : first_of (list_tests (header_of s).consumers t)
+          ≡ 0 → first_of (turn_tests (contracts (month_of s')) t)
+          ≡ first_of (turn_tests (contracts (month_of s)) t)
       turns good =
           unfold turn_tests first_of in
           rw (turns_same t (header_of s).consumers (names_clear (header_of s).consumers t good) (contracts (month_of s')) (contracts (month_of s)) contracts_alike)
@@ -203,7 +240,8 @@ module _ (s s' t : List ℕ) (w : WorseSheet s s') where
   heads : header_of s' ≡ header_of s
   heads = same_header s s' w.header
 
-  contracts_alike : (c : ℕ) → c < (header_of s).consumers → contracts (month_of s') c ≡ contracts (month_of s) c
+  contracts_alike : (c : ℕ) → c < (header_of s).consumers
+      → contracts (month_of s') c ≡ contracts (month_of s) c
   contracts_alike c b = (w.figures.consumer c b).contract
 
   module _ (room room' : ℕ) (a : Accepted s room) (a' : Accepted s' room') where
@@ -239,14 +277,17 @@ module _ (s s' t : List ℕ) (w : WorseSheet s s') where
             };
       }
 
-pub no_better : (s s' t out out' : List ℕ) → Accepted s (length out) → Accepted s' (length out') → WorseSheet s s'
-    → MoreRowsKeepAttested (month_of s) (month_of s') → NoBetter (header_of s) (buffer_after (transferred s t) out) (buffer_after (transferred s' t) out')
+pub no_better : (s s' t out out' : List ℕ) → Accepted s (length out) → Accepted s' (length out')
+    → WorseSheet s s'
+    → MoreRowsKeepAttested (month_of s) (month_of s')
+    → NoBetter (header_of s) (buffer_after (transferred s t) out) (buffer_after (transferred s' t) out')
 no_better s s' t out out' a a' w keeps = go (eqb (transfer_refusal s t) 0) refl
   where
     same : transfer_refusal s' t ≡ transfer_refusal s t
     same = same_refusal s s' t w (length out) (length out') a a'
 
-    go : (b : Bool) → eqb (transfer_refusal s t) 0 ≡ b → NoBetter (header_of s) (buffer_after (transferred s t) out) (buffer_after (transferred s' t) out')
+    go : (b : Bool) → eqb (transfer_refusal s t) 0 ≡ b
+        → NoBetter (header_of s) (buffer_after (transferred s t) out) (buffer_after (transferred s' t) out')
     go true e =
         let none = eqb-true _ _ e in
         let none' = same ∙ none in

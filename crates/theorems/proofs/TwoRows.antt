@@ -1,4 +1,5 @@
--- The two months of specs/TwoRows, computed: the second is worse, and has a row of larger volume. Assumes nothing.
+-- The two months of specs/TwoRows, computed: the second is worse, and has a row of larger volume. Assumes
+-- nothing.
 use mathlib.Core.Path.{refl}
 use Prim.Native.Nat.{ℕ, zero, suc, zero-le, ◌≤◌, ◌<◌}
 use native.Mathlib.Nat.{le_refl}
@@ -14,7 +15,8 @@ use Rattle.theorems.proofs.Producers.{less_attested}
 
 pub figures : TwoRowFigures
 unfolding settlement two_rows
-figures = record { k4_of_100 = refl; second_of_100 = refl; first_cut = refl; k4_of_50 = refl; second_of_50 = refl }
+figures =
+    record { k4_of_100 = refl; second_of_100 = refl; first_cut = refl; k4_of_50 = refl; second_of_50 = refl }
 
 worse : Worse (two_rows 1000) (two_rows 500)
 unfolding two_rows month

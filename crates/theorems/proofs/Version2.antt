@@ -1,4 +1,5 @@
--- A sheet of version 1 written in version 2 gets past number 6, and states the same figures with rows that cover the month. Assumes nothing.
+-- A sheet of version 1 written in version 2 gets past number 6, and states the same figures with rows that
+-- cover the month. Assumes nothing.
 use mathlib.Core.Path.{◌≡◌, refl, sym, ap, subst, ◌∙◌}
 use mathlib.Core.List.{List, [], ◌∷◌, ◌++◌}
 use Prim.Native.Nat.{ℕ, ◌+◌, ◌-◌, ◌*◌, ◌≤◌, ◌<◌}
@@ -10,9 +11,37 @@ use Rattle.rules.specs.declared.Layout.{Layout}
 use Rattle.rules.specs.Month.{hours}
 use Rattle.rules.specs.Limits.{FormLimits}
 use Rattle.rules.specs.Fields.{big_endian, bytes_from, joined}
-use Rattle.rules.specs.Sheet.{length_field, version, header_of, layout_of, month_of, states_days, by_column, producer_at, producer_under, row_at, row_of, day_at, consumer_at, consumer_of, sheet_length, in_version_2}
+use Rattle.rules.specs.Sheet.{
+  length_field,
+  version,
+  header_of,
+  layout_of,
+  month_of,
+  states_days,
+  by_column,
+  producer_at,
+  producer_under,
+  row_at,
+  row_of,
+  day_at,
+  consumer_at,
+  consumer_of,
+  sheet_length,
+  in_version_2,
+}
 use Rattle.laws.proofs.Fields.{Holds, holds_left, holds_right, length-joined, held_record}
-use Rattle.laws.proofs.Sheet.{SameFields, length-from, held_from, row_width_1, row_width_2, by_hour, sheet_length_in_full, producers_le, front_same, consumer_same}
+use Rattle.laws.proofs.Sheet.{
+  SameFields,
+  length-from,
+  held_from,
+  row_width_1,
+  row_width_2,
+  by_hour,
+  sheet_length_in_full,
+  producers_le,
+  front_same,
+  consumer_same,
+}
 use Rattle.theorems.specs.Alike.{SameProducer}
 use Rattle.theorems.specs.Request5.{FullRow, FullRows}
 use Rattle.theorems.proofs.Alike.{producer_same}
@@ -67,7 +96,8 @@ module _ (s : List ℕ) (form : FormLimits s) (first : version s ≡ 1) where
       holds_right t 5 producers (rows ++ consumers) (omega (arith, length-from s 5 (row_at l 0 - 5), rows_from)) after_head
 
   producers_same : SameFields (row_at l 0 - 5) t 5 s 5
-  producers_same = held_from (row_at l 0 - 5) t 5 s 5 (holds_left t 5 producers (rows ++ consumers) after_head)
+  producers_same =
+      held_from (row_at l 0 - 5) t 5 s 5 (holds_left t 5 producers (rows ++ consumers) after_head)
 
   row_held : (j : ℕ) → j < (header_of s).rows → Holds t (row_at l 0 + 12 * j) (row j)
   row_held j b = held_record row 12 length-row t (row_at l 0) (header_of s).rows (holds_left t (row_at l 0) rows consumers after_producers) j b
@@ -130,7 +160,8 @@ module _ (s : List ℕ) (form : FormLimits s) (first : version s ≡ 1) where
   unfolding producer_at
   producer_place p = refl
 
-  producer_after : (p : ℕ) → p < (header_of s).producers → SameProducer (hours (header_of s)) (producer_under l s p) (producer_under l' t p)
+  producer_after : (p : ℕ) → p < (header_of s).producers
+      → SameProducer (hours (header_of s)) (producer_under l s p) (producer_under l' t p)
   producer_after p b =
       producer_same l l' s t p
       (λ w k q. ap (λ (at : ℕ). big_endian w t (at + k)) (producer_place p) ∙ front w (producer_at l p + k) (unfold producer_at in omega arith) (inside w k q))
@@ -143,7 +174,8 @@ module _ (s : List ℕ) (form : FormLimits s) (first : version s ≡ 1) where
   unfolding row_at
   row_place j = rw (row_width_2 l' (omega arith), producer_place (header_of s).producers) (omega arith)
 
-  row_after : (j : ℕ) → j < (header_of s).rows → FullRow (header_of s).days (row_of l s (row_at l j)) (row_of l' t (row_at l' j))
+  row_after : (j : ℕ) → j < (header_of s).rows
+      → FullRow (header_of s).days (row_of l s (row_at l j)) (row_of l' t (row_at l' j))
   row_after j b =
       rw (row_place j)
       (record {
@@ -161,7 +193,8 @@ module _ (s : List ℕ) (form : FormLimits s) (first : version s ≡ 1) where
       days : Holds t (row_at l 0 + 12 * j + 10) (1 ∷ (header_of s).days ∷ [])
       days = holds_right t (row_at l 0 + 12 * j) (bytes_from s (row_at l j) 10) (1 ∷ (header_of s).days ∷ []) (omega (arith, length-from s (row_at l j) 10)) (row_held j b)
 
-      stated : (k d : ℕ) → k < 2 → day_at l' t (row_at l 0 + 12 * j + (10 + k)) d ≡ get_or (1 ∷ (header_of s).days ∷ []) k 0
+      stated : (k d : ℕ) → k < 2
+          → day_at l' t (row_at l 0 + 12 * j + (10 + k)) d ≡ get_or (1 ∷ (header_of s).days ∷ []) k 0
       stated k d q =
           unfold day_at states_days big_endian in
           let e : row_at l 0 + 12 * j + (10 + k) + 0 ≡ row_at l 0 + 12 * j + 10 + k = omega arith in
@@ -171,7 +204,8 @@ module _ (s : List ℕ) (form : FormLimits s) (first : version s ≡ 1) where
   unfolding consumer_at
   consumer_place c = rw (row_place (header_of s).rows)
 
-  consumer_after : (c : ℕ) → c < (header_of s).consumers → consumer_of t (consumer_at l' c) ≡ consumer_of s (consumer_at l c)
+  consumer_after : (c : ℕ) → c < (header_of s).consumers
+      → consumer_of t (consumer_at l' c) ≡ consumer_of s (consumer_at l c)
   consumer_after c b = rw (consumer_place c) (consumer_same t (row_at l 0 + 12 * (header_of s).rows + 15 * c) s (consumer_at l c) field')
     where
       there : consumer_at l c ≡ consumer_at l 0 + 15 * c
@@ -179,7 +213,11 @@ module _ (s : List ℕ) (form : FormLimits s) (first : version s ≡ 1) where
 
       field' : SameFields 15 t (row_at l 0 + 12 * (header_of s).rows + 15 * c) s (consumer_at l c)
       field' w k q =
-          rw (there, add_assoc (consumer_at l 0) (15 * c) k, add_assoc (row_at l 0 + 12 * (header_of s).rows) (15 * c) k)
+          rw (
+            there,
+            add_assoc (consumer_at l 0) (15 * c) k,
+            add_assoc (row_at l 0 + 12 * (header_of s).rows) (15 * c) k,
+          )
           (consumers_same w (15 * c + k) (omega arith))
 
   pub full_after : FullRows s t

@@ -13,11 +13,52 @@ use Rattle.rules.specs.declared.Series.{Series}
 use Rattle.rules.specs.Month.{hours}
 use Rattle.rules.specs.Limits.{FormLimits}
 use Rattle.rules.specs.Fields.{big_endian, bytes_from, joined}
-use Rattle.rules.specs.Sheet.{length_field, version, header_of, layout_of, month_of, month_under, hours_width, stated_width, states_days, by_column, producer_at, hours_at, hour_series, series, power_at, power, producer_under, row_width, row_at, row_of, day_at, consumer_at, consumer_of, sheet_length, column, in_columns, rearranged}
+use Rattle.rules.specs.Sheet.{
+  length_field,
+  version,
+  header_of,
+  layout_of,
+  month_of,
+  month_under,
+  hours_width,
+  stated_width,
+  states_days,
+  by_column,
+  producer_at,
+  hours_at,
+  hour_series,
+  series,
+  power_at,
+  power,
+  producer_under,
+  row_width,
+  row_at,
+  row_of,
+  day_at,
+  consumer_at,
+  consumer_of,
+  sheet_length,
+  column,
+  in_columns,
+  rearranged,
+}
 use Rattle.rules.specs.Outcome.{Stretch, hours_stretch}
 use Rattle.laws.proofs.Refusals.{form_clear}
 use Rattle.laws.proofs.Fields.{Holds, holds_left, holds_right, length-joined, held_record}
-use Rattle.laws.proofs.Sheet.{SameFields, length-from, held_from, row_width_2, by_column_means, sheet_length_in_full, row_inside, consumer_inside, producers_le, front_same, row_same, consumer_same}
+use Rattle.laws.proofs.Sheet.{
+  SameFields,
+  length-from,
+  held_from,
+  row_width_2,
+  by_column_means,
+  sheet_length_in_full,
+  row_inside,
+  consumer_inside,
+  producers_le,
+  front_same,
+  row_same,
+  consumer_same,
+}
 use Rattle.theorems.specs.Alike.{SameProducer, Alike}
 use Rattle.theorems.proofs.Alike.{producer_alike}
 use Rattle.theorems.proofs.OtherVersion as OtherVersion
@@ -31,7 +72,8 @@ module _ (s : List ℕ) (at : ℕ) (x : Series) where
   unfolding column
   length-column n = length-joined powers 4 (λ i. length-from s (power_at at x i) 4) n
 
-  pub column_read : (t : List ℕ) (to n : ℕ) → Holds t to (column s at n x) → (i : ℕ) → i < n → big_endian 4 t (to + 4 * i) ≡ power s at x i
+  pub column_read : (t : List ℕ) (to n : ℕ) → Holds t to (column s at n x) → (i : ℕ) → i < n
+      → big_endian 4 t (to + 4 * i) ≡ power s at x i
   unfolding column power
   column_read t to n h i b =
       front_same t (to + 4 * i) s (power_at at x i) 4 (omega arith)
@@ -51,7 +93,8 @@ module _ (s : List ℕ) (form : FormLimits s) (second : version s ≡ 2) where
   l' = record { version = 3; header = h }
 
   -- Records stand where they stood.
-  same_places : (sheet_length l' ≡ sheet_length l) × ((j : ℕ) → row_at l' j ≡ row_at l j) × ((c : ℕ) → consumer_at l' c ≡ consumer_at l c)
+  same_places : (sheet_length l' ≡ sheet_length l) × ((j : ℕ) → row_at l' j ≡ row_at l j)
+      × ((c : ℕ) → consumer_at l' c ≡ consumer_at l c)
       × ((p : ℕ) → hours_at l' p ≡ hours_at l p) × ((p : ℕ) → producer_at l' p ≡ producer_at l p)
   unfolding sheet_length consumer_at row_at row_width states_days hours_at producer_at
   same_places = (refl, (λ j. refl), (λ c. refl), (λ p. refl), (λ p. refl))
@@ -92,13 +135,15 @@ module _ (s : List ℕ) (form : FormLimits s) (second : version s ≡ 2) where
   whole = rw second (record { byte = λ i b. rw zero-add refl })
 
   after_front : Holds t 5 (bytes_from s 5 9 ++ (producers ++ behind))
-  after_front = OtherVersion.behind_front s t (length_field s) 3 (bytes_from s 5 9 ++ (producers ++ behind)) whole
+  after_front =
+      OtherVersion.behind_front s t (length_field s) 3 (bytes_from s 5 9 ++ (producers ++ behind)) whole
 
   month_same : SameFields 9 t 5 s 5
   month_same = held_from 9 t 5 s 5 (holds_left t 5 (bytes_from s 5 9) (producers ++ behind) after_front)
 
   after_header : Holds t 14 (producers ++ behind)
-  after_header = holds_right t 5 (bytes_from s 5 9) (producers ++ behind) (omega (arith, length-from s 5 9)) after_front
+  after_header =
+      holds_right t 5 (bytes_from s 5 9) (producers ++ behind) (omega (arith, length-from s 5 9)) after_front
 
   behind_same : SameFields (sheet_length l - row_at l 0) t (row_at l 0) s (row_at l 0)
   behind_same =
@@ -197,7 +242,8 @@ module _ (s : List ℕ) (form : FormLimits s) (second : version s ≡ 2) where
   unfolding day_at states_days
   row_after j b = rw (same_places.1 j) (unfold day_at states_days in row_same t (row_at l j) s (row_at l j) l (behind_at (row_width l) (row_at l j) (unfold row_at in omega arith) (row_inside l j b)))
 
-  consumer_after : (c : ℕ) → c < h.consumers → consumer_of t (consumer_at l' c) ≡ consumer_of s (consumer_at l c)
+  consumer_after : (c : ℕ) → c < h.consumers
+      → consumer_of t (consumer_at l' c) ≡ consumer_of s (consumer_at l c)
   consumer_after c b =
       rw (same_places.2 c)
       (consumer_same t (consumer_at l c) s (consumer_at l c) (behind_at 15 (consumer_at l c) (unfold consumer_at row_at in omega arith) (consumer_inside l c b)))
@@ -212,7 +258,12 @@ module _ (s : List ℕ) (form : FormLimits s) (second : version s ≡ 2) where
     past_form x f = rw (form_clear x f)
 
     pub stretch_after : hours_stretch t p ≡ hours_stretch s p
-    stretch_after = past_form t form_after ∙ ap stretch_under layout_after ∙ rw (same_places.3 p, second) refl ∙ sym (past_form s form)
+    stretch_after =
+        past_form t form_after ∙ ap stretch_under layout_after ∙ rw (
+          same_places.3 p,
+          second,
+        )
+        refl ∙ sym (past_form s form)
 
   -- The month that it states is the same month.
   pub alike_after : Alike (month_of s) (month_of t)

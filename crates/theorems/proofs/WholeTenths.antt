@@ -12,7 +12,13 @@ use Rattle.rules.specs.Coefficients.{ratio, millionths_of, overuse, penalty, les
 use Rattle.laws.proofs.Units.{Nearest, nearest, rounded_times}
 use Rattle.laws.proofs.Bands.{thousandths_times}
 use Rattle.laws.proofs.Coefficients.{ratio_is, penalty_of_none}
-use Rattle.theorems.specs.Request6.{tenths_over, tenths_penalty, less_tenths_penalty, k1_by_tenths, WholeTenths}
+use Rattle.theorems.specs.Request6.{
+  tenths_over,
+  tenths_penalty,
+  less_tenths_penalty,
+  k1_by_tenths,
+  WholeTenths,
+}
 
 -- What is rounded to a whole number of tenths at a hundredth is rounded to that number at a tenth.
 coarse : (s n tenths : ℕ) → average (hundredth * s) n ≡ tenths * 10 → average (tenth * s) n ≡ tenths
@@ -23,7 +29,8 @@ coarse s (suc n) tenths e =
     unfold rounded in div-eq_of_lt-le (suc n) (omega (arith, r.from)) (omega (arith, r.below))
 
 -- Ten times the penalty, of T in thousandths, leaves the same part of it.
-penalty_tenfold : (T x : ℕ) → millionths_of (less_penalty T (x * 10)) ≡ millionths_of (less_tenths_penalty T x)
+penalty_tenfold : (T x : ℕ)
+    → millionths_of (less_penalty T (x * 10)) ≡ millionths_of (less_tenths_penalty T x)
 penalty_tenfold zero zero = unfold less_penalty less_tenths_penalty in refl
 penalty_tenfold zero (suc x) =
     unfold less_tenths_penalty in ap millionths_of (penalty_of_none (suc x * 10) (λ e. absurd (omega (arith, e))))

@@ -1,4 +1,5 @@
--- Months that are alike: the same figures in every record that the counts let stand. What a month has past its counts, no rule reads.
+-- Months that are alike: the same figures in every record that the counts let stand. What a month has past
+-- its counts, no rule reads.
 use Rattle.std.specs.Prelude.{ℕ, ◌<◌, ◌≡◌}
 use Rattle.rules.specs.Month.{Producer, Month, hours}
 
@@ -23,6 +24,7 @@ pub record SameProducer (hours : ℕ) (p p' : Producer) : Type 0 where
 -- Two months with one header and the same producers, rows and consumers below its counts.
 pub record Alike (m m' : Month) : Type 0 where
   pub header : m'.header ≡ m.header
-  pub producer : (p : ℕ) → p < m.header.producers → SameProducer (hours m.header) (m.producer p) (m'.producer p)
+  pub producer : (p : ℕ) → p < m.header.producers
+      → SameProducer (hours m.header) (m.producer p) (m'.producer p)
   pub row : (j : ℕ) → j < m.header.rows → m'.row j ≡ m.row j
   pub consumer : (c : ℕ) → c < m.header.consumers → m'.consumer c ≡ m.consumer c

@@ -1,4 +1,5 @@
--- Demand 1 as a statement: which number a refusal is. That acceptance is exactly the limits of Limits is proved of them as they stand there.
+-- Demand 1 as a statement: which number a refusal is. That acceptance is exactly the limits of Limits is
+-- proved of them as they stand there.
 use Rattle.std.specs.Prelude.{ℕ, ◌≡◌, true, false, cond, List, [], ◌∷◌, eqb}
 use Rattle.rules.specs.Refusals.{Test, applies}
 

@@ -1,4 +1,5 @@
--- Demand 3 as statements: the relation of two sheets, what it must do to their results, and the order of a row's volumes.
+-- Demand 3 as statements: the relation of two sheets, what it must do to their results, and the order of a
+-- row's volumes.
 use Rattle.std.specs.Prelude.{ℕ, ◌≤◌, ◌<◌, ◌≡◌, List, take}
 use Rattle.rules.specs.declared.Header.{Header}
 use Rattle.rules.specs.declared.Consumer.{Consumer}
@@ -7,8 +8,9 @@ use Rattle.rules.specs.Cut.{row_count}
 use Rattle.rules.specs.Sheet.{header_width, month_of}
 use Rattle.rules.specs.Result.{read_row, read_consumer, read_totals}
 
--- The second producer is the first, or worse: with less attested capacity, less working power in an hour, a lower given coefficient,
--- more outside use in an hour, or more hours without a bid or a plan. All else is the same.
+-- The second producer is the first, or worse: with less attested capacity, less working power in an hour, a
+-- lower given coefficient, more outside use in an hour, or more hours without a bid or a plan. All else is
+-- the same.
 pub record WorseProducer (hours : ℕ) (p p' : Producer) : Type 0 where
   pub attested : p'.attested ≤ p.attested
   pub deductible : p'.deductible ≡ p.deductible
@@ -26,7 +28,8 @@ pub record WorseProducer (hours : ℕ) (p p' : Producer) : Type 0 where
   pub possible : (i : ℕ) → i < hours → p'.possible i ≡ p.possible i
   pub outside_use : (i : ℕ) → i < hours → p.outside_use i ≤ p'.outside_use i
 
--- The second consumer is the first, or worse: with a higher peak, more mining days, or a higher z. All else is the same.
+-- The second consumer is the first, or worse: with a higher peak, more mining days, or a higher z. All else
+-- is the same.
 pub record WorseConsumer (c c' : Consumer) : Type 0 where
   pub contract : c'.contract ≡ c.contract
   pub peak : c.peak ≤ c'.peak
@@ -37,7 +40,8 @@ pub record WorseConsumer (c c' : Consumer) : Type 0 where
 
 -- Every producer and consumer of the second month is that of the first, or worse; every row is the same.
 pub record Worse (m m' : Month) : Type 0 where
-  pub producer : (p : ℕ) → p < m.header.producers → WorseProducer (hours m.header) (m.producer p) (m'.producer p)
+  pub producer : (p : ℕ) → p < m.header.producers
+      → WorseProducer (hours m.header) (m.producer p) (m'.producer p)
   pub row : (j : ℕ) → j < m.header.rows → m'.row j ≡ m.row j
   pub consumer : (c : ℕ) → c < m.header.consumers → WorseConsumer (m.consumer c) (m'.consumer c)
 
@@ -58,17 +62,20 @@ pub record WorseSheet (s s' : List ℕ) : Type 0 where
   pub header : take header_width s' ≡ take header_width s
   pub figures : Worse (month_of s) (month_of s')
 
--- The second result pays no producer more and charges no consumer less, in any row, for any consumer, or in all. Each figure is the one
--- that is read from the result's bytes at its place.
+-- The second result pays no producer more and charges no consumer less, in any row, for any consumer, or in
+-- all. Each figure is the one that is read from the result's bytes at its place.
 pub record NoBetter (h : Header) (out out' : List ℕ) : Type 0 where
   pub row_actual : (j : ℕ) → j < h.rows → (read_row out' j).actual ≤ (read_row out j).actual
   pub row_payment : (j : ℕ) → j < h.rows → (read_row out' j).payment ≤ (read_row out j).payment
-  pub consumer_volume : (c : ℕ) → c < h.consumers → (read_consumer h out c).volume ≤ (read_consumer h out' c).volume
-  pub consumer_charge : (c : ℕ) → c < h.consumers → (read_consumer h out c).charge ≤ (read_consumer h out' c).charge
+  pub consumer_volume : (c : ℕ) → c < h.consumers
+      → (read_consumer h out c).volume ≤ (read_consumer h out' c).volume
+  pub consumer_charge : (c : ℕ) → c < h.consumers
+      → (read_consumer h out c).charge ≤ (read_consumer h out' c).charge
   pub total_paid : (read_totals h out').paid ≤ (read_totals h out).paid
   pub total_charged : (read_totals h out).charged ≤ (read_totals h out').charged
 
 -- Every row of a result: actual volume ≤ volume after the cut ≤ the volume that the sheet states.
 pub record OnlyCut (s out : List ℕ) : Type 0 where
   pub actual : (j : ℕ) → j < (month_of s).header.rows → (read_row out j).actual ≤ (read_row out j).after_cut
-  pub after_cut : (j : ℕ) → j < (month_of s).header.rows → (read_row out j).after_cut ≤ ((month_of s).row j).volume
+  pub after_cut : (j : ℕ) → j < (month_of s).header.rows
+      → (read_row out j).after_cut ≤ ((month_of s).row j).volume

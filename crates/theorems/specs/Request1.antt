@@ -9,7 +9,8 @@ use Rattle.rules.specs.Transfers.{contracts}
 abbrev pub contract_sum : List ℕ → ℕ
 contract_sum s = sum (contracts (month_of s)) (header_of s).consumers
 
--- The byte at a place belongs to no contract volume of the sheet: it stands before each one, or past its four bytes.
+-- The byte at a place belongs to no contract volume of the sheet: it stands before each one, or past its four
+-- bytes.
 abbrev pub OutsideContracts : List ℕ → ℕ → Type 0
 OutsideContracts s i = (c : ℕ) → c < (header_of s).consumers → contract_at (layout_of s) c ≤ i → contract_at (layout_of s) c + 4 ≤ i
 

@@ -1,4 +1,5 @@
--- Request 3 as statements: what the record of an industrial complex leaves of a sheet and of its result. [Requests, 3]
+-- Request 3 as statements: what the record of an industrial complex leaves of a sheet and of its result.
+-- [Requests, 3]
 use Rattle.std.specs.Prelude.{ℕ, ◌+◌, ◌≤◌, ◌<◌, ◌≡◌, List, length, get_or}
 use Rattle.rules.specs.declared.Header.{Header}
 use Rattle.rules.specs.Month.{hours}
@@ -24,8 +25,8 @@ pub record HigherDrawn (h : Header) (r r' : List ℕ) : Type 0 where
   pub drawn : (i : ℕ) → i < hours h → drawn r i ≤ drawn r' i
   pub sent : (i : ℕ) → i < hours h → sent r' i ≡ sent r i
 
--- The second result has the lines of the first in every row and for every consumer but c, and pays the same in all. Each figure is the one
--- that is read from the result's bytes at its place.
+-- The second result has the lines of the first in every row and for every consumer but c, and pays the same
+-- in all. Each figure is the one that is read from the result's bytes at its place.
 pub record OnlyLine (h : Header) (c : ℕ) (out out' : List ℕ) : Type 0 where
   pub row : (j : ℕ) → j < h.rows → read_row out' j ≡ read_row out j
   pub consumer : (k : ℕ) → k < h.consumers → (k ≡ c → ⊥) → read_consumer h out' k ≡ read_consumer h out k

@@ -1,4 +1,5 @@
--- Request 6 as statements: k1 as it was before, from an average in tenths, and averages for which nothing changed. [Requests, 6]
+-- Request 6 as statements: k1 as it was before, from an average in tenths, and averages for which nothing
+-- changed. [Requests, 6]
 use Rattle.std.specs.Prelude.{ℕ, zero, suc, ◌-◌, ◌*◌, ◌≡◌}
 use Rattle.rules.specs.declared.Header.{Header}
 use Rattle.rules.specs.declared.Ratio.{Ratio}

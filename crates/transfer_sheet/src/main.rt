@@ -1,5 +1,6 @@
-// Reads a sheet from standard input and a list of transfers from file descriptor 3, each at most 65,536 bytes. Prints the sheet afterwards,
-// byte for byte; of a refusal the line that a listing has, N and its number.
+// Reads a sheet from standard input and a list of transfers from file descriptor 3, each at most 65,536
+// bytes. Prints the sheet afterwards, byte for byte; of a refusal the line that a listing has, N and its
+// number.
 #![tactic(auto)]
 
 use changed_sheet::print_after;
@@ -10,7 +11,7 @@ const LIST: &str = "/dev/fd/3";
 
 // Applies the list, and prints what is left.
 fn print_transferred(rt: &impl Print, sheet: &mut [u8], list: &[u8]) {
-    print_after(rt, transfer(sheet, list), sheet);
+    let _ = print_after(rt, transfer(sheet, list), sheet);
 }
 
 fn main(rt: HostRuntime) {

@@ -1,2 +1,3 @@
 pub mod Turn
+pub mod Written
 pub mod Answered

@@ -2,39 +2,30 @@
 #![tactic(auto)]
 
 ghost use Rattle.std.specs.Prelude.{◌≡◌};
-ghost use Rattle.rules.specs.Transfers.{transfer_outcome, transferred};
 ghost use Rattle.rules.specs.Said.{said};
+ghost use Rattle.rules.specs.Transfers.{transfer_outcome, transferred};
 
-use refusals_sheet::sheet_refusal;
-use rules::Answer;
-use sheet::layout;
-use transfer_list::list_refusal;
+use refusals_sheet::try_sheet;
+use rules::Refusal;
+use transfer_list::try_list;
 
 mod contracts;
-mod turns;
 
-use contracts::{read_volumes, write_volumes};
-use turns::after_entries;
+use contracts::Volumes;
 
-// Applies a list of transfers to the contract volumes of a sheet, in the list's order. A refusal changes no byte: every number is decided
-// before the first byte is written. Where the list is applied the count is 0.
-pub fn transfer(sheet: &mut [u8], list: &[u8]) -> Answer
+// Applies a list of transfers to the contract volumes of a sheet, in the list's order. A refusal changes no
+// byte, since every number is decided before the first byte is written. Where the list is applied the count
+// is 0.
+#[tactic(auto, using(crate::proofs::Answered::applying))]
+pub fn transfer(sheet: &mut [u8], list: &[u8]) -> Result<usize, Refusal>
     ensures answer { said result ≡ transfer_outcome sheet.old list.now }
     ensures sheet { sheet.new ≡ transferred sheet.old list.now }
 {
-    let own = sheet_refusal(sheet);
-    if own != 0 {
-        return Answer::Refused(own);
-    }
-    let layout = layout(sheet);
-    let number = list_refusal(list, layout.header.consumers);
-    if number != 0 {
-        return Answer::Refused(number);
-    }
-    let turns = after_entries(read_volumes(sheet, layout), list);
-    if turns.unmet {
-        return Answer::Refused(15);
-    }
-    write_volumes(sheet, layout, turns.volumes);
-    Answer::Written(0)
+    let own = try_sheet(sheet)?;
+    let layout = own.layout;
+    try_list(list, layout.header.consumers)?;
+    let mut volumes = Volumes::stated(&own);
+    volumes.apply(list)?;
+    volumes.write(sheet, layout);
+    Ok(0)
 }

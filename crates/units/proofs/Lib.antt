@@ -1,4 +1,3 @@
 pub mod Rounding
-pub mod Trying
 pub mod Adding
 pub mod Pricing

@@ -1,234 +1,180 @@
 // Settles the stored sheets and compares every answer and every byte with what the rival program answered.
-// A file holds the cases of one kind; a line with the kind and its count of cases is printed where all of them agree.
+// A file holds the cases of one kind; a line with the kind and its count of cases is printed where all of
+// them agree.
 #![tactic(auto)]
+
+ghost use Rattle.std.specs.Prelude.{◌≤◌, length};
 
 use fields::{byte, word};
 use reading::read_full;
-use rules::Answer;
+use rules::Refusal;
 use settlement::settle;
 use std::fs;
 use std::io::Read;
 use std::rt::Runtime;
 use text2015::settle_2015;
 
-// What stands before a case's sheet: the sheet's length, the result buffer's length, and the rival's answer, which is a refusal's number
-// or the count of the bytes that follow the sheet. And whether it is to be settled under the text of 2015.
+// A case's sheet is settled into a buffer of at most so many bytes, and the rival's result is no longer.
+const LONGEST: usize = 2000;
+
+// Document 01's own months and the slips; the refusals, and sheets that break several rules; settled sheets:
+// bands, halves, counts, months, those at their limits, damaged ones, buffers.
+const KINDS: [&str; 26] = [
+    "checked_months",
+    "slips",
+    "refusal_1",
+    "refusal_2",
+    "refusal_3",
+    "refusal_4",
+    "refusal_5",
+    "refusal_6",
+    "refusal_7",
+    "refusal_8",
+    "refusal_9",
+    "refusal_10",
+    "refusal_11",
+    "refusal_12",
+    "several_rules",
+    "bands_of_k1",
+    "bands_of_consumers",
+    "ties",
+    "zero_counts",
+    "months",
+    "ceilings",
+    "cut",
+    "credits",
+    "largest",
+    "damaged",
+    "buffers",
+];
+
+// Consumers under the text of 2015.
+const KINDS_OF_2015: [&str; 4] = [
+    "text_2015_bands",
+    "text_2015_ties",
+    "text_2015_rooms",
+    "text_2015_refusals",
+];
+
+// What stands before a case's sheet: the sheet's length, the result buffer's length, and the rival's answer,
+// which is the count of the bytes that follow the sheet, or a refusal's number.
 #[derive(Clone, Copy)]
 struct Case {
     length: usize,
     room: usize,
-    refused: bool,
-    number: usize,
-    old: bool,
+    answer: Result<usize, usize>,
 }
 
-#[derive(Clone, Copy)]
-enum Compared {
-    Alike,
-    Different,
-    NoMore,
-}
-
-fn case_of(front: &[u8], old: bool) -> Case {
-    Case {
-        length: word(front, 0) as usize,
-        room: word(front, 4) as usize,
-        refused: byte(front, 8) != 0,
-        number: word(front, 9) as usize,
-        old,
-    }
-}
-
-// The module answers as the rival did.
-fn same_answer(answer: Answer, c: Case) -> bool {
-    match answer {
-        Answer::Refused(number) => c.refused & (number as usize == c.number),
-        Answer::Written(count) => !c.refused & (count == c.number),
-    }
-}
-
-// The entry for the text that is asked for.
-fn settle_under(old: bool, sheet: &[u8], res: &mut [u8]) -> Answer {
-    if old {
-        settle_2015(sheet, res)
-    } else {
-        settle(sheet, res)
-    }
-}
-
-// The sheet settled into a buffer: the answer, the result and the bytes past it are as they should be. `kept` is what the buffer held before.
-fn settles(sheet: &[u8], told: &[u8], c: Case, res: &mut [u8], kept: &[u8]) -> bool {
-    let room = c.room;
-    let count = told.len();
-    if res.len() < room {
-        return false;
-    }
-    let answer = settle_under(c.old, sheet, &mut res[..room]);
-    if res.len() < count {
-        return false;
-    }
-    if kept.len() < count {
-        return false;
-    }
-    let written = &res[..count] == told;
-    let past = &res[count..] == &kept[count..];
-    same_answer(answer, c) & (written & past)
-}
-
-// The same, into a buffer that is filled with some byte.
-fn agrees(sheet: &[u8], told: &[u8], c: Case, fill: u8) -> bool {
-    let mut result = [fill; 2000];
-    let kept = [fill; 2000];
-    settles(sheet, told, c, &mut result, &kept)
-}
-
-// Twice, so that no byte of a result is taken for one that was there before.
-fn twice(sheet: &[u8], told: &[u8], c: Case) -> bool {
-    agrees(sheet, told, c, 165) & agrees(sheet, told, c, 90)
-}
-
-// The next case of a file, read into two buffers.
-fn compare_by<R: Read>(file: &mut R, old: bool, sheet: &mut [u8], told: &mut [u8]) -> Compared {
-    let mut front = [0u8; 13];
-    if read_full(file, &mut front) < 13 {
-        return Compared::NoMore;
-    }
-    let c = case_of(&front, old);
-    let length = c.length;
-    let count = if c.refused { 0 } else { c.number };
-    if sheet.len() < length {
-        return Compared::Different;
-    }
-    if told.len() < count {
-        return Compared::Different;
-    }
-    let read = read_full(file, &mut sheet[..length]);
-    let answered = read_full(file, &mut told[..count]);
-    if (read != length) | (answered != count) {
-        return Compared::Different;
-    }
-    if twice(&sheet[..length], &told[..count], c) {
-        Compared::Alike
-    } else {
-        Compared::Different
-    }
-}
-
-// The next case of a file.
-fn compare<R: Read>(file: &mut R, old: bool) -> Compared {
-    let mut sheet = [0u8; 65536];
-    let mut told = [0u8; 2000];
-    compare_by(file, old, &mut sheet, &mut told)
-}
-
-// How many cases of a file agree, and whether those were all.
-#[derive(Clone, Copy)]
-struct Tally {
-    count: u64,
-    all: bool,
-}
-
-fn tally_of<R: Read>(file: &mut R, old: bool) -> Tally {
-    for n in 0..10000u64 {
-        match compare(file, old) {
-            Compared::Alike => {}
-            Compared::Different => return Tally {
-                count: n,
-                all: false,
-            },
-            Compared::NoMore => return Tally {
-                count: n,
-                all: true,
+impl From<[u8; 13]> for Case {
+    fn from(front: [u8; 13]) -> Case {
+        let number = word(&front, 9) as usize;
+        Case {
+            length: word(&front, 0) as usize,
+            room: word(&front, 4) as usize,
+            answer: if byte(&front, 8) == 0 {
+                Ok(number)
+            } else {
+                Err(number)
             },
         }
     }
-    Tally {
-        count: 10000,
-        all: false,
+}
+
+// The sheet settled into a buffer that is filled with some byte: the answer, the result and the bytes past it
+// are as they should be.
+fn agrees<F: Fn(&[u8], &mut [u8]) -> Result<usize, Refusal>>(
+    entry: &F,
+    case: Case,
+    sheet: &[u8],
+    told: &[u8],
+    fill: u8,
+) -> bool
+    requires callable { F.IsAlwaysCallable entry.now }
+    requires short { length told.now ≤ 2000 }
+{
+    let mut result = [fill; LONGEST];
+    if LONGEST < case.room {
+        return false;
     }
+    let answer = entry(sheet, &mut result[..case.room]).map_err(
+        |refusal| refusal.number() as usize,
+    );
+    let (written, past) = result.split_at(told.len());
+    answer == case.answer && written == told && past.iter().all(|b| *b == fill)
+}
+
+// The next case of a file agrees; none where the file ends. It is settled twice, so that no byte of a result
+// is taken for one that was there before.
+fn compare<R: Read, F: Fn(&[u8], &mut [u8]) -> Result<usize, Refusal>>(
+    file: &mut R,
+    entry: &F,
+) -> Option<bool>
+    requires { F.IsAlwaysCallable entry.now }
+{
+    let mut front = [0u8; 13];
+    if read_full(file, &mut front) < 13 {
+        return None;
+    }
+    let case = Case::from(front);
+    let count = case.answer.unwrap_or(0);
+    let mut sheet = [0u8; 65536];
+    let mut told = [0u8; LONGEST];
+    if sheet.len() < case.length || told.len() < count {
+        return Some(false);
+    }
+    let sheet = &mut sheet[..case.length];
+    let told = &mut told[..count];
+    if read_full(file, sheet) != sheet.len() || read_full(file, told) != told.len() {
+        return Some(false);
+    }
+    Some(agrees(entry, case, sheet, told, 165) && agrees(entry, case, sheet, told, 90))
+}
+
+// How many cases a file holds, where all of them agree; otherwise the number of the first that differs.
+fn tally<R: Read, F: Fn(&[u8], &mut [u8]) -> Result<usize, Refusal>>(
+    file: &mut R,
+    entry: &F,
+) -> Result<u64, u64>
+    requires { F.IsAlwaysCallable entry.now }
+{
+    for n in 0..10000u64 {
+        match compare(file, entry) {
+            Some(true) => {}
+            Some(false) => return Err(n),
+            None => return Ok(n),
+        }
+    }
+    Err(10000)
 }
 
 // The cases of one kind: the kind and their count, or the number of the first that differs.
-fn kind_under(rt: &impl Runtime, old: bool, name: &str) {
+fn print_kind<F: Fn(&[u8], &mut [u8]) -> Result<usize, Refusal>>(
+    rt: &impl Runtime,
+    entry: &F,
+    name: &str,
+)
+    requires { F.IsAlwaysCallable entry.now }
+{
     match fs::open(rt, name) {
-        Ok(mut file) => {
-            let seen = tally_of(&mut file, old);
-            let count = seen.count;
-            if seen.all {
+        Ok(mut file) => match tally(&mut file, entry) {
+            Ok(count) => {
                 let _ = println!(rt; "{name} {count}");
-            } else {
-                let _ = println!(rt; "{name} DIFFERS at case {count}");
             }
-        }
+            Err(case) => {
+                let _ = println!(rt; "{name} DIFFERS at case {case}");
+            }
+        },
         Err(error) => {
             let _ = eprintln!(rt; "{name}: {error}");
         }
     }
 }
 
-fn kind(rt: &impl Runtime, name: &str) {
-    kind_under(rt, false, name);
-}
-
-// Document 01's own months, and the slips.
-fn papers(rt: &impl Runtime) {
-    kind(rt, "checked_months");
-    kind(rt, "slips");
-}
-
-// The refusals.
-fn first_refusals(rt: &impl Runtime) {
-    kind(rt, "refusal_1");
-    kind(rt, "refusal_2");
-    kind(rt, "refusal_3");
-    kind(rt, "refusal_4");
-    kind(rt, "refusal_5");
-    kind(rt, "refusal_6");
-}
-
-// More refusals, and sheets that break several rules.
-fn last_refusals(rt: &impl Runtime) {
-    kind(rt, "refusal_7");
-    kind(rt, "refusal_8");
-    kind(rt, "refusal_9");
-    kind(rt, "refusal_10");
-    kind(rt, "refusal_11");
-    kind(rt, "refusal_12");
-    kind(rt, "several_rules");
-}
-
-// Settled sheets: bands, halves, counts, months.
-fn settled(rt: &impl Runtime) {
-    kind(rt, "bands_of_k1");
-    kind(rt, "bands_of_consumers");
-    kind(rt, "ties");
-    kind(rt, "zero_counts");
-    kind(rt, "months");
-}
-
-// Settled sheets at their limits, damaged sheets, buffers.
-fn limits(rt: &impl Runtime) {
-    kind(rt, "ceilings");
-    kind(rt, "cut");
-    kind(rt, "credits");
-    kind(rt, "largest");
-    kind(rt, "damaged");
-    kind(rt, "buffers");
-}
-
-// Consumers under the text of 2015.
-fn text_2015(rt: &impl Runtime) {
-    kind_under(rt, true, "text_2015_bands");
-    kind_under(rt, true, "text_2015_ties");
-    kind_under(rt, true, "text_2015_rooms");
-    kind_under(rt, true, "text_2015_refusals");
-}
-
 fn main(rt: HostRuntime) {
-    papers(&rt);
-    first_refusals(&rt);
-    last_refusals(&rt);
-    settled(&rt);
-    limits(&rt);
-    text_2015(&rt);
+    for name in KINDS {
+        print_kind(&rt, &settle, name);
+    }
+    for name in KINDS_OF_2015 {
+        print_kind(&rt, &settle_2015, name);
+    }
 }

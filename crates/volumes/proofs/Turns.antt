@@ -35,14 +35,17 @@ up_to m p j =
 -- Six producers' volumes over the first j rows, and that they fit.
 pub record Counted (m : Month) (j : ℕ) (of : List Volumes) : Type 0 where
   pub agrees : Agrees 6 no_volumes (λ p. up_to m p j) of
-  pub fits : (p : ℕ) → (sum (own_support m (sold m) p) j ≤ 4294967295 * j) × (sum (own_bilateral m (sold m) p) j ≤ 4294967295 * j)
+  pub fits : (p : ℕ) → (sum (own_support m (sold m) p) j ≤ 4294967295 * j)
+      × (sum (own_bilateral m (sold m) p) j ≤ 4294967295 * j)
   pub few : (p : ℕ) → sum (own_row m p) j ≤ j
 
-pub counted_fits : {m : Month} {j : ℕ} {of : List Volumes} → Counted m j of → j ≤ 255 → (p : ℕ) → p < 6 → Fits (get_or of p no_volumes)
+pub counted_fits : {m : Month} {j : ℕ} {of : List Volumes} → Counted m j of → j ≤ 255 → (p : ℕ) → p < 6
+    → Fits (get_or of p no_volumes)
 counted_fits k few p l = rw (k.agrees.each p l) (omega (arith, (k.fits p).0), omega (arith, (k.fits p).1))
 
 -- A row more can be counted.
-pub counted_few : {m : Month} {j : ℕ} {of : List Volumes} → Counted m j of → j < 255 → (p : ℕ) → p < 6 → (get_or of p no_volumes).rows < 255
+pub counted_few : {m : Month} {j : ℕ} {of : List Volumes} → Counted m j of → j < 255 → (p : ℕ) → p < 6
+    → (get_or of p no_volumes).rows < 255
 counted_few k less p l = rw (k.agrees.each p l) (omega (arith, k.few p))
 
 pub counted_none : (m : Month) → Counted m 0 (replicate 6 no_volumes)
@@ -59,29 +62,63 @@ module _ (m : Month) (j : ℕ) {r : Row} (is : r ≡ m.row j) where
   unfolding with_row own_support own_bilateral owns support bilateral when
   own_more p e =
       let volume : sold m j ≡ r.volume = ap (λ (x : Row). x.volume) (sym is) in
-      rw (sum_more (own_support m (sold m) p) j, sum_more (own_bilateral m (sold m) p) j, sum_more (own_row m p) j, volume, ← is, eq-eqb r.producer p e)
+      rw (
+        sum_more (own_support m (sold m) p) j,
+        sum_more (own_bilateral m (sold m) p) j,
+        sum_more (own_row m p) j,
+        volume,
+        ← is,
+        eq-eqb r.producer p e,
+      )
 
   other_same : (p : ℕ) → (r.producer ≡ p → ⊥) → up_to m p j ≡ up_to m p (j + 1)
   unfolding own_support own_bilateral owns when
   other_same p n =
-      rw (sum_more (own_support m (sold m) p) j, sum_more (own_bilateral m (sold m) p) j, sum_more (own_row m p) j, ← is, ne_eqb r.producer p n, add-zero (sum (own_support m (sold m) p) j), add-zero (sum (own_bilateral m (sold m) p) j), add-zero (sum (own_row m p) j))
+      rw (
+        sum_more (own_support m (sold m) p) j,
+        sum_more (own_bilateral m (sold m) p) j,
+        sum_more (own_row m p) j,
+        ← is,
+        ne_eqb r.producer p n,
+        add-zero (sum (own_support m (sold m) p) j),
+        add-zero (sum (own_bilateral m (sold m) p) j),
+        add-zero (sum (own_row m p) j),
+      )
 
   module _ (small : r.volume ≤ 4294967295) (of : List Volumes) (k : Counted m j of) where
-    fits_more : (p : ℕ) → (sum (own_support m (sold m) p) (j + 1) ≤ 4294967295 * (j + 1)) × (sum (own_bilateral m (sold m) p) (j + 1) ≤ 4294967295 * (j + 1))
+    fits_more : (p : ℕ) → (sum (own_support m (sold m) p) (j + 1) ≤ 4294967295 * (j + 1))
+        × (sum (own_bilateral m (sold m) p) (j + 1) ≤ 4294967295 * (j + 1))
     unfolding own_support own_bilateral
     fits_more p =
         let v = ap (λ (x : Row). x.volume) is in (
-          omega (arith, sum_more (own_support m (sold m) p) j, when-le (owns m p j && support m j) (m.row j).volume, (k.fits p).0, v),
-          omega (arith, sum_more (own_bilateral m (sold m) p) j, when-le (owns m p j && bilateral m j) (m.row j).volume, (k.fits p).1, v),
+          omega (
+            arith,
+            sum_more (own_support m (sold m) p) j,
+            when-le (owns m p j && support m j) (m.row j).volume,
+            (k.fits p).0,
+            v,
+          ),
+          omega (
+            arith,
+            sum_more (own_bilateral m (sold m) p) j,
+            when-le (owns m p j && bilateral m j) (m.row j).volume,
+            (k.fits p).1,
+            v,
+          ),
         )
 
     few_more : (p : ℕ) → sum (own_row m p) (j + 1) ≤ j + 1
     few_more p = omega (arith, sum_more (own_row m p) j, when-le (owns m p j) 1, k.few p)
 
     pub counted_other : 6 ≤ r.producer → Counted m (j + 1) of
-    counted_other past = record { agrees = agrees_as 6 no_volumes (λ p l. other_same p (λ e. omega arith)) k.agrees; fits = fits_more; few = few_more }
+    counted_other past = record {
+      agrees = agrees_as 6 no_volumes (λ p l. other_same p (λ e. omega arith)) k.agrees;
+      fits = fits_more;
+      few = few_more;
+    }
 
-    pub counted_own : r.producer < 6 → Counted m (j + 1) (set of r.producer (with_row (get_or of r.producer no_volumes) r))
+    pub counted_own : r.producer < 6
+        → Counted m (j + 1) (set of r.producer (with_row (get_or of r.producer no_volumes) r))
     counted_own below =
         record {
           agrees =

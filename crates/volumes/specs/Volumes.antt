@@ -9,7 +9,8 @@ use Rattle.rules.specs.Cut.{sold, support_volume, bilateral_volume, row_count}
 use Rattle.units.specs.Sums.{tenths}
 use Rattle.volumes.specs.declared.Volumes.{Volumes}
 
--- What a producer's rows of one kind come to at most, whatever the bytes: 255 rows of the largest volume that four bytes hold.
+-- What a producer's rows of one kind come to at most, whatever the bytes: 255 rows of the largest volume that
+-- four bytes hold.
 abbrev pub most_volume : ℕ
 most_volume = 1095216660225
 
@@ -20,7 +21,12 @@ Fits v = (v.support.0 ≤ most_volume) × (v.bilateral.0 ≤ most_volume)
 -- T and B of the volumes that the sheet has, and the count of rows.
 abbrev pub volumes_of : Month → ℕ → Volumes
 volumes_of m p =
-    record { support = tenths (support_volume m (sold m) p); bilateral = tenths (bilateral_volume m (sold m) p); rows = row_count m p }
+    record {
+      support = tenths (support_volume m (sold m) p);
+      bilateral = tenths (bilateral_volume m (sold m) p);
+      rows =
+          row_count m p;
+    }
 
 -- Before the first row, and past the end of an array.
 abbrev pub no_volumes : Volumes

@@ -1,14 +1,10 @@
--- What a writer leaves, where its part is too short and where it is not; a field's bytes by halves, and turned. Assumes nothing.
-use mathlib.Core.Path.{◌≡◌, ap₂, ◌∙◌}
-use mathlib.Core.List.{List, [], ◌∷◌, ◌++◌, append_assoc, append-nil}
-use Prim.Native.Nat.{ℕ, zero, suc, ◌+◌, ◌*◌, ◌/◌, ◌%◌, ◌^◌, ◌≤◌, ◌<◌}
-use native.Mathlib.Nat.{add-zero, add-suc, div-one, pow-succ', div-div-eq-div-mul}
-use native.Mathlib.Omega.{arith}
-use lib.ListN.{length}
+-- What a writer leaves, where its part is too short and where it is not; a figure's bytes. Assumes nothing.
+use Rattle.std.proofs.Common.{◌≡◌, ℕ, ◌+◌, ◌/◌, ◌%◌, ◌≤◌, ◌<◌, List, [], ◌∷◌, length, arith}
+use Rattle.std.proofs.Math.Nat.{div-div-eq-div-mul}
+use Rattle.std.specs.Int.{w32, w64, to_be_bytes}
 use borrow.Author.Tests.{lt-ltb, le-ltb}
-use Rattle.rules.specs.Fields.{over, bytes_of}
-use Rattle.laws.proofs.Fields.{length-bytes_of}
-use Rattle.writing.specs.Placed.{placed, lowest_first}
+use Rattle.rules.specs.Fields.{over, over_at, bytes_of}
+use Rattle.writing.specs.Placed.{placed, placed_at}
 
 pub placed_not : (p part : List ℕ) → length part < length p → placed p part ≡ part
 unfolding placed
@@ -18,34 +14,30 @@ pub placed_over : (p part : List ℕ) → length p ≤ length part → placed p 
 unfolding placed
 placed_over p part h = rw (le-ltb _ _ h)
 
--- The same of a field of w bytes.
-pub field_not : (w v : ℕ) (part : List ℕ) → length part < w → placed (bytes_of w v) part ≡ part
-field_not w v part h = placed_not (bytes_of w v) part (rw length-bytes_of h)
+-- What put leaves of a part that has room for p from a place on.
+pub placed_at_over : (at : ℕ) (p part : List ℕ) → at + length p ≤ length part
+    → placed_at at p part ≡ over_at at p part
+placed_at_over at p part h = rw (le-ltb _ _ h)
 
-pub field_over : (w v : ℕ) (part : List ℕ) → w ≤ length part → placed (bytes_of w v) part ≡ over (bytes_of w v) part
-field_over w v part h = placed_over (bytes_of w v) part (rw length-bytes_of h)
-
--- A field of m + n bytes is one of m bytes, without the last n, and then one of n.
-pub bytes_joined : (m n v : ℕ) → bytes_of (m + n) v ≡ bytes_of m (v / 256 ^ n) ++ bytes_of n v
+-- The bytes that std's to_be_bytes gives are those of the figure, and a byte is its own field.
+pub to_be_bytes-w32 : (v : ℕ) → to_be_bytes w32 v ≡ bytes_of 4 v
 unfolding bytes_of
-bytes_joined m zero v = rw (add-zero m, div-one v, append-nil (bytes_of m v))
-bytes_joined m (suc n) v =
-    rw (add-suc m n, bytes_joined m n (v / 256), append_assoc (bytes_of m (v / 256 / 256 ^ n)) (bytes_of n (v / 256)) (v % 256 ∷ []), div-div-eq-div-mul v 256 (256 ^ n), pow-succ' 256 n)
+to_be_bytes-w32 v = simp div-div-eq-div-mul
 
--- Four bytes as a number, the lowest first; and the last four bytes of v so, the first of them the lowest.
-four_bytes : (a b c d : ℕ) → a < 256 → b < 256 → c < 256 → d < 256 → lowest_first (a + b * 256 + c * 65536 + d * 16777216) ≡ a ∷ b ∷ c ∷ d ∷ []
-four_bytes a b c d p q r s =
-    let w = a + b * 256 + c * 65536 + d * 16777216 in
-    let e : w % 256 ≡ a = omega arith in
-    let f : w / 256 ≡ b + c * 256 + d * 65536 = omega arith in
-    let g : w / 65536 ≡ c + d * 256 = omega arith in
-    let h : w / 16777216 ≡ d = omega arith in
-    let b_is : (b + c * 256 + d * 65536) % 256 ≡ b = omega arith in
-    let c_is : (c + d * 256) % 256 ≡ c = omega arith in
-    rw (e, f, g, h, b_is, c_is)
-
-pub turned_bytes : (v : ℕ) → lowest_first (v / 16777216 % 256 + v / 65536 % 256 * 256 + v / 256 % 256 * 65536 + v % 256 * 16777216) ≡ bytes_of 4 v
+pub to_be_bytes-w64 : (v : ℕ) → to_be_bytes w64 v ≡ bytes_of 8 v
 unfolding bytes_of
-turned_bytes v =
-    four_bytes (v / 16777216 % 256) (v / 65536 % 256) (v / 256 % 256) (v % 256) (omega arith) (omega arith) (omega arith) (omega arith)
-    ∙ ap₂ (λ (x y : ℕ). x % 256 ∷ y % 256 ∷ v / 256 % 256 ∷ v % 256 ∷ []) (omega arith) (omega arith)
+to_be_bytes-w64 v = simp div-div-eq-div-mul
+
+pub one_byte : (v : ℕ) → v < 256 → v ∷ [] ≡ bytes_of 1 v
+unfolding bytes_of
+one_byte v small = let e : v % 256 ≡ v = omega arith in rw e
+
+-- The last four bytes of a number are those of what it leaves over 2 ^ 32.
+pub last_four_bytes : (v : ℕ) → to_be_bytes w32 (v % 4294967296) ≡ bytes_of 4 v
+unfolding bytes_of
+last_four_bytes v =
+    let a : v % 4294967296 / 16777216 % 256 ≡ v / 256 / 256 / 256 % 256 = omega arith in
+    let b : v % 4294967296 / 65536 % 256 ≡ v / 256 / 256 % 256 = omega arith in
+    let c : v % 4294967296 / 256 % 256 ≡ v / 256 % 256 = omega arith in
+    let d : v % 4294967296 % 256 ≡ v % 256 = omega arith in
+    rw (a, b, c, d)

@@ -8,4 +8,8 @@ in_c-requires c = done_small _ c.average.ensures.answer
 
 pub returns : goal.returns
 returns c =
-    record { answer = handed_on c.in_c.type_inv c.in_c.ensures c.average.ensures.answer; sheet = c.average.ensures.sheet }
+    record {
+      answer = handed_on c.in_c.type_inv c.in_c.ensures c.average.ensures.answer;
+      sheet =
+          c.average.ensures.sheet;
+    }

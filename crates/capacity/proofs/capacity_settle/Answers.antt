@@ -6,4 +6,8 @@ in_c-requires c = settled_small _ _ c.settle.ensures.answer
 
 pub returns : goal.returns
 returns c =
-    record { answer = handed_on c.in_c.type_inv c.in_c.ensures c.settle.ensures.answer; buffer = c.settle.ensures.buffer }
+    record {
+      answer = handed_on c.in_c.type_inv c.in_c.ensures c.settle.ensures.answer;
+      buffer =
+          c.settle.ensures.buffer;
+    }

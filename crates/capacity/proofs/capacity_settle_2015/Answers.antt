@@ -6,4 +6,8 @@ in_c-requires c = settled_2015_small _ _ c.settle_2015.ensures.answer
 
 pub returns : goal.returns
 returns c =
-    record { answer = handed_on c.in_c.type_inv c.in_c.ensures c.settle_2015.ensures.answer; buffer = c.settle_2015.ensures.buffer }
+    record {
+      answer = handed_on c.in_c.type_inv c.in_c.ensures c.settle_2015.ensures.answer;
+      buffer =
+          c.settle_2015.ensures.buffer;
+    }

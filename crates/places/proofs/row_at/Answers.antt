@@ -17,4 +17,5 @@ overflow_add-result c = omega (arith, rows_le c, c.producer_at.ensures.1)
 
 pub returns : goal.returns
 unfolding row_at
-returns c = (rw (c.row_width.ensures.0, c.producer_at.ensures.0), omega (arith, rows_le c, c.producer_at.ensures.1))
+returns c =
+    (rw (c.row_width.ensures.0, c.producer_at.ensures.0), omega (arith, rows_le c, c.producer_at.ensures.1))

@@ -1,58 +1,67 @@
 use native.Mathlib.Omega.{arith}
-use mathlib.Core.Path.{◌≡◌, ap}
-use Prim.Native.Nat.{◌<◌, zero-le}
-use native.Mathlib.Nat.{le_trans}
-use Rattle.laws.proofs.Sheet.{hours_inside}
-use Rattle.laws.proofs.Arrays.{agrees_as, agrees_listed, listed_agrees, filled_none, filled_more}
-use Rattle.volumes.specs.Volumes.{no_volumes}
+use mathlib.Core.Path.{◌≡◌, sym, ap, ◌∙◌}
+use Prim.Native.Nat.{◌<◌}
+use Rattle.rules.specs.Said.{number_of}
+use Rattle.laws.proofs.Arrays.{listed_agrees}
 use Rattle.volumes.proofs.Turns.{volumes_whole}
-use Rattle.producers.specs.Terms.{no_terms, zero_terms, with_terms}
-use Rattle.producers.specs.declared.OwnTerms.{OwnTerms}
-use Rattle.producers.proofs.Cuts.{none_tried, tried_more}
+use Rattle.producers.specs.Terms.{with_terms}
+use Rattle.producers.proofs.Cuts.{with_none, with_no_table, with_all}
+use Rattle.producers.proofs.Cuts.{tried_none, tried_low, tried_high, tried_all}
+use Rattle.producers.proofs.all_terms.Goals.{in-Ok, in-Err}
 use Rattle.producers.proofs.all_terms.Goals as goal
 
+pub returns-in_default : goal.returns-in_default
+returns-in_default c =
+    let a = c.args in
+    let none = sym (with_none a.layout a.s.now c.in_default.ensures) in
+    let all = tried_all a.layout a.s.now none (tried_none a.layout a.s.now) in
+    record { terms = all.0; number = all.1 }
+
+pub returns-then-not-in_table : goal.returns-then-not-in_table
+returns-then-not-in_table c =
+    let sheet = c.in-Some.sheet in
+    let same = c.in-Some.ensures in
+    let month = sym c.in_table.ensures ∙ c.if-not-in_table.true in
+    let none = sym (with_no_table sheet.layout sheet.bytes.now month) in
+    let all = tried_all sheet.layout sheet.bytes.now none (tried_none sheet.layout sheet.bytes.now) in
+    rw (sym same.0, sym same.1) (record { terms = all.0; number = all.1 })
+
 pub loop-p-init : goal.loop-p-init
-loop-p-init c =
-    let n = c.with_terms-n.ensures in (
-      rw c.no_terms-none.ensures (filled_none 6 no_terms zero_terms _),
-      zero-le,
-      (λ b. (agrees_as 6 no_volumes (λ p q. volumes_whole _ _ (n.2 b).2 p) (listed_agrees c.row_volumes-volumes.ensures.volumes), c.row_volumes-volumes.ensures.fits)),
-      n.0,
-      n.1,
-      n.2,
-      c.control_days-control.ensures,
-      none_tried _ _,
-    )
+loop-p-init c = tried_none _ _
 
-pub bounds-volumes-i : goal.bounds-volumes-i
-bounds-volumes-i c = omega arith
-
-pub terms_of-own-requires : goal.terms_of-own-requires
-terms_of-own-requires c =
-    let inv = c.loop-p.invariant in
-    let some = inv.5 (omega arith) in
-    let volumes = inv.2 (omega arith) in
-    let p : c.loop-p.p < 6 = omega arith in
-    let h = c.args.layout in record { stands = (some.0, le_trans (hours_inside h c.loop-p.p (omega (arith, some.1))) some.2, some.2); volumes = (volumes.0.each _ p, volumes.1 _ p); control = (some.3, some.4, inv.6) }
-
-pub bounds-all-i : goal.bounds-all-i
-bounds-all-i c = omega arith
-
-pub overflow_add-p : goal.overflow_add-p
-overflow_add-p c = omega arith
-
-pub loop-p-smaller : goal.loop-p-smaller
-loop-p-smaller c = omega arith
+pub invariant_of-producer : goal.invariant_of-producer
+invariant_of-producer c =
+    let sheet = c.in-Some.sheet in
+    let below : c.loop-p.p < 6 = omega (arith, c.loop-p-test.true, c.min-n.ensures) in
+    let there : c.loop-p.p < sheet.layout.header.producers =
+    omega (arith, c.loop-p-test.true, c.min-n.ensures) in
+    record {
+      there = there;
+      read = c.producer.ensures.there there;
+      counted = (listed_agrees c.row_volumes.ensures.volumes).each _ below ∙ volumes_whole _ _ sheet.whole _;
+      fits = c.row_volumes.ensures.fits _ below;
+      month = sym c.in_table.ensures ∙ c.if-not-in_table.false;
+      days = c.control_days-control.ensures;
+    }
 
 pub loop-p-preserved : goal.loop-p-preserved
 loop-p-preserved c =
-    let inv = c.loop-p.invariant in
-    let own = c.terms_of-own.ensures in
-    (filled_more 6 no_terms zero_terms _ _ (omega arith) (ap (λ (x : OwnTerms). x.terms) own) inv.0, omega arith, inv.2, inv.3, inv.4, inv.5, inv.6, tried_more _ _ _ inv.7 (ap (λ (x : OwnTerms). x.high) own))
+    let tried = c.loop-p.invariant in
+    let below : c.loop-p.p < 6 = omega (arith, c.loop-p-test.true, c.min-n.ensures) in
+    elim c.match-terms.branch [
+      | in-Ok w ↦ rw (w.all-is, w.tried-is) (tried_low _ _ _ tried below w.in-Ok.ensures.0 w.in-Ok.ensures.1)
+      | in-Err w ↦
+          let nine = ap number_of w.in-Err.ensures.1 in
+          rw (w.all-is, w.tried-is) (tried_high _ _ _ tried w.in-Err.ensures.0 nine)
+    ]
 
 pub returns : goal.returns
 returns c =
-    let inv = c.loop-p.invariant in
-    let a = c.args in
-    let end : c.loop-p.p ≡ with_terms a.layout a.s.now = omega arith in
-    record { terms = agrees_listed (rw end at inv.0); high = rw end at inv.7 }
+    let sheet = c.in-Some.sheet in
+    let same = c.in-Some.ensures in
+    let month = sym c.in_table.ensures ∙ c.if-not-in_table.false in
+    let count = with_all sheet.layout sheet.bytes.now sheet.whole month in
+    let end : c.loop-p.p ≡ with_terms sheet.layout sheet.bytes.now =
+    omega (arith, c.loop-p-test.false, c.min-n.ensures, count) in
+    let all = tried_all sheet.layout sheet.bytes.now end c.loop-p.invariant in
+    rw (sym same.0, sym same.1) (record { terms = all.0; number = all.1 })

@@ -10,7 +10,7 @@ pub returns-then-s-stated_end : goal.returns-then-s-stated_end
 returns-then-s-stated_end c =
     let a = c.args in
     let at = c.producer_at-at.ensures.0 in
-    c.none_stated.ensures ∙ sym (stated_short a.layout a.s.now a.p (omega (arith, at, c.if-s-stated_end.true)))
+    sym (stated_short a.layout a.s.now a.p (omega (arith, at, c.if-s-stated_end.true)))
 
 pub returns : goal.returns
 returns c =

@@ -11,7 +11,7 @@ returns-then-s-row_end c =
     let a = c.args in
     let at = c.row_at-at.ensures.0 in
     let width = c.row_width.ensures.0 in
-    c.no_row.ensures ∙ sym (row_short a.layout a.s.now a.j (omega (arith, at, width, c.if-s-row_end.true)))
+    sym (row_short a.layout a.s.now a.j (omega (arith, at, width, c.if-s-row_end.true)))
 
 pub returns : goal.returns
 returns c =

@@ -19,4 +19,10 @@ returns c =
     let a = c.args in
     let at = c.hours_at-at.ensures.0 in
     let wide = c.hours_width.ensures.0 in
-    rw (stretch_whole a.layout a.s.now a.p (omega (arith, at, wide, c.if-s-end.false)), add-sub_cancel_left, at, wide) (record { part = refl; place = (refl, refl) })
+    rw (
+      stretch_whole a.layout a.s.now a.p (omega (arith, at, wide, c.if-s-end.false)),
+      add-sub_cancel_left,
+      at,
+      wide,
+    )
+    (record { part = refl; place = (refl, refl) })

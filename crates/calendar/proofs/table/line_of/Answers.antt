@@ -10,7 +10,8 @@ use Rattle.laws.proofs.ControlTable.{line_at, line_none}
 use Rattle.calendar.proofs.table.line_of.Goals as goal
 
 -- The line that is read at a weekday.
-chosen : (i : ℕ) {t : List (List ℕ)} {first : ℕ} → t ≡ control_weekdays → i < 7 → first ≡ suc i → get_or t i [] ≡ line_of first
+chosen : (i : ℕ) {t : List (List ℕ)} {first : ℕ} → t ≡ control_weekdays → i < 7 → first ≡ suc i
+    → get_or t i [] ≡ line_of first
 chosen i same within e = rw (same, e) (line_at [] i within)
 
 -- One by one: a number that is not the next weekday's is above it.

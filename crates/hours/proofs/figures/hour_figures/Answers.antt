@@ -1,28 +1,12 @@
-use Rattle.std.proofs.Common.{◌≡◌, false, sym, ap, ◌∙◌, zero-le}
-use Rattle.refusals_powers.specs.Powers.{high_powers}
-use Rattle.units.specs.Sums.{hundredths}
-use Rattle.hours.specs.Figures.{hour_figures}
-use Rattle.hours.proofs.figures.hour_figures.Goals.{After-outside_average-arg-1, After-outside_average-average}
+use Rattle.std.proofs.Common.{sym, ◌∙◌}
+use Rattle.hours.proofs.Fitting.{sums_fit}
+use Rattle.hours.proofs.Found.{sums_low}
 use Rattle.hours.proofs.figures.hour_figures.Goals as goal
 
-pub returns-then-month : goal.returns-then-month
-unfolding hour_figures
-returns-then-month c =
-    let high = sym c.month_sums-month.ensures.figures.0 ∙ c.if-month.true in
-    record { figures = rw (sym c.month_sums-month.ensures.figures.1, c.month_sums-month.ensures.figures.0, high); fits = (c.month_sums-month.ensures.fits.0, c.month_sums-month.ensures.fits.1, zero-le) }
-
--- No power is above the ceiling.
-none : (c : After-outside_average-arg-1) → high_powers c.args.part.now ≡ false
-none c = sym c.month_sums-month.ensures.figures.0 ∙ c.if-month.false
-
--- No power is above the ceiling.
-none-2 : (c : After-outside_average-average) → high_powers c.args.part.now ≡ false
-none-2 c = sym c.month_sums-month.ensures.figures.0 ∙ c.if-month.false
-
-pub outside_average-average-requires : goal.outside_average-average-requires
-outside_average-average-requires c = none c
-
-pub returns : goal.returns
-unfolding hour_figures
-returns c =
-    record { figures = rw (sym c.month_sums-month.ensures.figures.1, none-2 c, ap hundredths c.outside_average-average.ensures.average); fits = (c.month_sums-month.ensures.fits.0, c.month_sums-month.ensures.fits.1, c.outside_average-average.ensures.fits) }
+pub returns-clause-fits : goal.returns-clause-fits
+returns-clause-fits c =
+    let low = sums_low _ _ _ _ c.args.control.on (sym c.tried_sums.ensures ∙ c.in_ok-sums.was) in
+    let a = c.args in
+    let fit = sums_fit a.part.now (λ i. (c.type_inv.part i).fits)
+    a.of.working a.of.possible a.days a.summed.0 in
+    (rw low.1 fit.0, rw low.1 fit.1, c.outside_average-average.ensures.fits)

@@ -1,33 +1,45 @@
-use Rattle.std.proofs.Common.{◌*◌, ◌≤◌, leb, arith, leb-true}
-use Rattle.rules.specs.Fields.{big_endian}
-use Rattle.laws.proofs.Range.{both}
-use Rattle.hours.proofs.Columns.{low_within, low_held, within_held}
-use Rattle.hours.proofs.figures.tried_sums.Goals.{After-struct_known-1}
+use Rattle.std.proofs.Common.{◌∙◌, arith}
+use Rattle.hours.proofs.Orders.{hours_fill, hours_passed, columns_fill, columns_passed}
 use Rattle.hours.proofs.figures.tried_sums.Goals as goal
 
--- The first powers are low.
-firsts : (c : After-struct_known-1) → (let a = c.args in (big_endian 4 a.part.now 0 ≤ 65535) × (big_endian 4 a.part.now (96 * a.days) ≤ 65535))
-firsts c =
-    let one = c.word-first in
-    let other = c.word-second in
-    let two = both (leb one.result 65535) (leb other.result 65535) c.if-first-second.true in
-    (rw (← one.ensures) (leb-true _ _ two.0), rw (← other.ensures) (leb-true _ _ two.1))
-
-pub low_sums-low-requires : goal.low_sums-low-requires
-low_sums-low-requires c =
-    let p = c.requires in
-    record { month = (omega (arith, p.0), p.1, p.2); low_begin = firsts c }
-
-pub returns-then-low : goal.returns-then-low
-returns-then-low c =
-    let a = c.args in record {
-      sound = λ e.
-          let low = c.low_sums-low.ensures e in
-          (low_within a.part.now a.days low.0 low.1, low_held a.part.now a.days a.summed.0 c.smaller-held.ensures c.smaller-lower.ensures low.1 low.2);
-      complete = λ none. c.if-low.true;
-    }
-
-pub returns : goal.returns
-returns c =
+pub month_sums-requires-clause-inside : goal.month_sums-requires-clause-inside
+month_sums-requires-clause-inside c =
     let a = c.args in
-    record { sound = λ e. within_held a.part.now a.days a.summed.0 c.smaller-held.ensures (c.within_sums.ensures.sound e).0 (c.within_sums.ensures.sound e).1; complete = c.within_sums.ensures.complete }
+    let told = c.in-Some-ByHour in
+    omega (arith, hours_fill a.part.now a.of a.days c.hour_order.ensures told.is told.field-0-is)
+
+pub month_sums-requires-clause-small : goal.month_sums-requires-clause-small
+month_sums-requires-clause-small c =
+    let a = c.args in
+    let told = c.in-Some-ByHour in
+    let few = (hours_fill a.part.now a.of a.days c.hour_order.ensures told.is told.field-0-is).1 in
+    (omega arith, omega arith, omega arith, omega (arith, few))
+
+pub returns-in-Some-ByHour : goal.returns-in-Some-ByHour
+returns-in-Some-ByHour c =
+    let a = c.args in
+    let told = c.in-Some-ByHour in
+    c.month_sums.ensures
+    ∙ hours_passed a.part.now a.of a.days c.hour_order.ensures told.is told.field-0-is _
+
+pub month_sums-requires-in-Some-ByColumn-clause-inside :
+    goal.month_sums-requires-in-Some-ByColumn-clause-inside
+month_sums-requires-in-Some-ByColumn-clause-inside c =
+    let a = c.args in
+    let told = c.in-Some-ByColumn in
+    omega (arith, columns_fill a.part.now a.of a.days c.hour_order.ensures told.is told.field-0-is)
+
+pub month_sums-requires-in-Some-ByColumn-clause-small :
+    goal.month_sums-requires-in-Some-ByColumn-clause-small
+month_sums-requires-in-Some-ByColumn-clause-small c =
+    let a = c.args in
+    let told = c.in-Some-ByColumn in
+    let few = (columns_fill a.part.now a.of a.days c.hour_order.ensures told.is told.field-0-is).1 in
+    (omega arith, omega arith, omega arith, omega (arith, few))
+
+pub returns-in-Some-ByColumn : goal.returns-in-Some-ByColumn
+returns-in-Some-ByColumn c =
+    let a = c.args in
+    let told = c.in-Some-ByColumn in
+    c.month_sums-in-Some-ByColumn.ensures
+    ∙ columns_passed a.part.now a.of a.days c.hour_order.ensures told.is told.field-0-is _

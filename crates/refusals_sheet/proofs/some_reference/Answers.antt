@@ -1,0 +1,10 @@
+use Rattle.std.proofs.Common.{rules}
+use Rattle.rules.specs.Sheet.{month_under}
+use Rattle.rules.specs.Refusals.{bad_reference}
+use Rattle.refusals_sheet.proofs.some_reference.Goals as goal
+
+pub returns : goal.returns
+returns c =
+    let sheet = c.args.sheet.now in
+    let m = month_under sheet.layout sheet.bytes.now in
+    c.some.ensures (λ j. bad_reference m.header (m.row j)) (λ j below b post. search rules)
