@@ -96,10 +96,13 @@ module _ (part : List ℕ) (of : HourSeries) (days : ℕ) {order : Option HourOr
     pub hours_fill : Fills part days
     hours_fill = fills part days hours_known.0
 
+    pub hours_held : any (hour_high part 12 4 8) (24 * days) ≡ high_powers part
+    hours_held = hours_hold part days hours_fill.0
+
     pub hours_passed : (S : ℕ) → sums_of_hours part 12 4 8 (24 * days) S ≡ tried_sums part of days S
     hours_passed S =
         passed part of days S 12 4 8 hours_known.1 (omega (arith, hours_fill.0)) (omega arith)
-        (hours_hold part days hours_fill.0)
+        hours_held
 
   module _ (by_column : kind ≡ HourOrder.ByColumn) where
     columns_known : (leb days 31 && eqb (length part) (3 * (96 * days))) ≡ true
@@ -112,10 +115,13 @@ module _ (part : List ℕ) (of : HourSeries) (days : ℕ) {order : Option HourOr
     pub columns_fill : Fills part days
     columns_fill = fills part days columns_known.0
 
+    pub columns_held : any (hour_high part 4 (4 * (24 * days)) (8 * (24 * days))) (24 * days) ≡ high_powers part
+    columns_held = columns_hold part days columns_fill.0
+
     pub columns_passed : (S : ℕ)
         → sums_of_hours part 4 (4 * (24 * days)) (8 * (24 * days)) (24 * days) S ≡ tried_sums part of days S
     columns_passed S =
         let possible : 96 * days ≡ 4 * (24 * days) = omega arith in
         let outside : 2 * (96 * days) ≡ 8 * (24 * days) = omega arith in
         passed part of days S 4 _ _ (rw (outside, possible) at columns_known.1)
-        (omega (arith, columns_fill.0)) (omega arith) (columns_hold part days columns_fill.0)
+        (omega (arith, columns_fill.0)) (omega arith) columns_held

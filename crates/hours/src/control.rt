@@ -50,20 +50,18 @@ fn control_hours<F: Fn(usize) -> u32>(days: u8, control: ControlDays, power_of: 
         → result ≡ control_of series control.on days }
     ensures fits { (result.counted.0 ≤ most_word * result.count) × (result.count ≤ 186) }
 {
-    let mut counted: u64 = 0;
+    let mut counted = Tenths(0);
     let mut count: u64 = 0;
     for day in 0..days {
         if is_on(control, day) {
             for t in 0..6 {
-                counted += power_of(24 * day as usize + (17 + t)) as u64;
+                let power = power_of(24 * day as usize + (17 + t));
+                counted = counted.plus(Tenths::stated(power));
             }
             count += 6;
         }
     }
-    Control {
-        counted: Tenths(counted),
-        count,
-    }
+    Control { counted, count }
 }
 
 // The control hours of a series. Nothing is counted where the part ends before the powers do, or in a month

@@ -1,8 +1,11 @@
 // k4's sums over the hours.
-ghost use Rattle.std.specs.Prelude.{◌≡◌, ◌+◌, ◌*◌, ◌≤◌, length};
-ghost use Rattle.hours.specs.Sums.{k4_in, no_sums, sums_of_hours};
+ghost use Rattle.std.specs.Prelude.{◌≡◌, ◌+◌, ◌*◌, ◌≤◌, true, false, length};
+ghost use Rattle.rules.specs.Range.{any};
+ghost use Rattle.refusals_powers.specs.Powers.{high_powers};
+ghost use Rattle.hours.specs.Sums.{k4_in, no_sums, hour_high, sums_of_hours};
 
 use crate::series::{both_stand, power, power_at};
+use refusals_powers::all_low;
 use rules::{Refusal, Series};
 use units::Tenths;
 
@@ -25,8 +28,9 @@ pub(crate) fn no_sums() -> K4
 
 // k4's sums for a summed capacity S of so many hours, each STEP bytes after the one before it; refused where
 // a power of theirs is above the ceiling. The largest power is tried once, at the end. Where it is within the
-// ceiling, an S above the ceiling is as one at it, and no sum leaves 32 bits.
-pub(crate) fn month_sums<const STEP: usize>(
+// ceiling, an S above the ceiling is as one at it, and no sum leaves 32 bits. Of hours that are LOW, below the
+// ceiling beforehand, no largest power is asked for, and no outside use is read.
+fn hour_sums<const STEP: usize, const LOW: bool>(
     part: &[u8],
     possible: usize,
     outside: usize,
@@ -35,6 +39,7 @@ pub(crate) fn month_sums<const STEP: usize>(
 ) -> Result<K4, Refusal>
     requires inside { outside + STEP * hours + 4 ≤ length part.now + STEP }
     requires small { (possible ≤ outside) × (4 ≤ STEP) × (STEP ≤ 12) × (hours ≤ 744) }
+    requires low { LOW ≡ true → any (hour_high part.now STEP possible outside) hours ≡ false }
     ensures { result ≡ sums_of_hours part.now STEP possible outside hours summed.0 }
 {
     let held = summed.0.min(Tenths::CEILING) as u32;
@@ -46,7 +51,9 @@ pub(crate) fn month_sums<const STEP: usize>(
         let p = power_at(part, possible + STEP * i);
         let o = power_at(part, outside + STEP * i);
         let m = held.min(p);
-        most = most.max(w.max(p).max(o));
+        if !LOW {
+            most = most.max(w.max(p).max(o));
+        }
         asked = asked.wrapping_add(m);
         met = met.wrapping_add(m.min(w));
     }
@@ -57,6 +64,26 @@ pub(crate) fn month_sums<const STEP: usize>(
         asked: Tenths(asked as u64),
         met: Tenths(met as u64),
     })
+}
+
+// The same of the hours that fill a part. Most months are low as a whole, which is told from the joined bits
+// of all powers.
+pub(crate) fn month_sums<const STEP: usize>(
+    part: &[u8],
+    possible: usize,
+    outside: usize,
+    hours: usize,
+    summed: Tenths,
+) -> Result<K4, Refusal>
+    requires inside { outside + STEP * hours + 4 ≤ length part.now + STEP }
+    requires small { (possible ≤ outside) × (4 ≤ STEP) × (STEP ≤ 12) × (hours ≤ 744) }
+    requires filled { any (hour_high part.now STEP possible outside) hours ≡ high_powers part.now }
+    ensures { result ≡ sums_of_hours part.now STEP possible outside hours summed.0 }
+{
+    if all_low(part) {
+        return hour_sums::<STEP, true>(part, possible, outside, hours, summed);
+    }
+    hour_sums::<STEP, false>(part, possible, outside, hours, summed)
 }
 
 // k4's sums over a month of so many days, whatever its series and powers are. There are none where the part

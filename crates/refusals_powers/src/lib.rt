@@ -2,16 +2,16 @@
 // record do.
 #![tactic(auto)]
 
-ghost use Rattle.std.specs.Prelude.{◌≡◌, true, false, ◌+◌, ◌*◌, ◌%◌, ◌≤◌, length};
-ghost use Rattle.refusals_powers.specs.Powers.{high_powers, high_from};
+ghost use Rattle.std.specs.Prelude.{◌≡◌, ◌+◌, ◌*◌, ◌%◌, ◌≤◌, ltb, length};
+ghost use Rattle.refusals_powers.specs.Powers.{high_powers, all_low, front_from};
 
 use refusals_record::too_high;
 
 // The bits of so many powers from a place on, joined. The two front bytes of a power are the lowest of its
-// word: where they are 0 in all, no power is above 65,535.
+// word: one of them has a bit where some power is above 65,535.
 fn joined(s: &[u8], at: usize, count: usize) -> u32
     requires { at + 4 * count ≤ length s.now }
-    ensures { result % 65536 ≡ 0 → high_from s.now at count ≡ false }
+    ensures { ltb 0 (result % 65536) ≡ front_from s.now at count }
 {
     let mut bits: u32 = 0;
     for i in 0..count {
@@ -21,15 +21,19 @@ fn joined(s: &[u8], at: usize, count: usize) -> u32
     bits
 }
 
-// No power has a bit in its two front bytes, as is usual. Blocks are of 72 powers, as many as a producer's day
-// has: the compiler writes out a loop of so many.
-fn all_low(part: &[u8]) -> bool
-    ensures { result ≡ true → high_powers part.now ≡ false }
+// No power of a part is above 65,535, as is usual: none has a bit in its two front bytes. Blocks are of 72
+// powers, as many as a producer's day has: the compiler writes out a loop of so many. A higher power in
+// the first block ends it, as where all powers are high.
+pub fn all_low(part: &[u8]) -> bool
+    ensures { result ≡ all_low part.now }
 {
     let blocks = part.len() / 288;
     let mut bits: u32 = 0;
     for b in 0..blocks {
         bits = bits | joined(part, 288 * b, 72);
+        if b == 0 && bits % 65536 != 0 {
+            return false;
+        }
     }
     bits = bits | joined(part, 288 * blocks, part.len() % 288 / 4);
     bits % 65536 == 0

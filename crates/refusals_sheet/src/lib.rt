@@ -139,10 +139,22 @@ fn is_late(found: Result<(), Refusal>) -> bool
     }
 }
 
-// What was found without the hours, with these: they are read only where a high power in them comes first.
-// It takes bytes and a layout, since its clause holds of bytes that end too soon, which no `Sheet` is.
+// A number that was found without the hours, 0 where none was, with these: they are read only where a high
+// power in them comes first. It takes bytes and a layout, since its clause holds of bytes that end too soon,
+// which no `Sheet` is.
 #[tactic(auto, unfolding(crate::specs::Numbers::with_hours))]
-pub fn with_hours(s: &[u8], layout: Layout, found: Result<(), Refusal>) -> Result<(), Refusal>
+pub fn with_hours(s: &[u8], layout: Layout, number: u8) -> u8
+    ensures { result ≡ with_hours number (high_hours layout s.now layout.header.producers) }
+{
+    if (number == 0 || 9 < number) && high_hours(s, layout) {
+        return Refusal::AboveCeiling.number();
+    }
+    number
+}
+
+// The same of a refusal that was found, or of none.
+#[tactic(auto, unfolding(crate::specs::Numbers::with_hours))]
+pub fn try_hours(s: &[u8], layout: Layout, found: Result<(), Refusal>) -> Result<(), Refusal>
     ensures { number_or_none result
         ≡ with_hours (number_or_none found) (high_hours layout s.now layout.header.producers) }
 {
@@ -163,7 +175,7 @@ fn try_figures(sheet: Sheet<'_>) -> Result<Sheet<'_>, Refusal>
     ensures read { IfOk result (λ same. (same.bytes.now ≡ sheet.entry.bytes.now)
         × (same.layout ≡ sheet.entry.layout)) }
 {
-    with_hours(sheet.bytes, sheet.layout, try_stated(&sheet))?;
+    try_hours(sheet.bytes, sheet.layout, try_stated(&sheet))?;
     Ok(sheet)
 }
 

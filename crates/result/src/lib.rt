@@ -9,7 +9,7 @@ ghost use Rattle.result.specs.After.{month_after};
 use crate::result::write_result;
 use crate::rows::try_terms;
 use producers::Terms;
-use refusals_sheet::{try_records, with_hours};
+use refusals_sheet::{try_hours, try_records};
 use rules::{Layout, Refusal};
 
 mod consumers;
@@ -24,7 +24,7 @@ pub fn settle_month(s: &[u8], layout: Layout, out: &mut [u8]) -> Result<(), Refu
 {
     let sheet = match try_records(s, layout, out.len()) {
         Ok(sheet) => sheet,
-        Err(refusal) => return with_hours(s, layout, Err(refusal)),
+        Err(refusal) => return try_hours(s, layout, Err(refusal)),
     };
     let mut terms = [Terms::NONE; 6];
     try_terms(&sheet, &mut terms)?;

@@ -74,11 +74,15 @@ fn some_entry<F: Fn(Transfer) -> bool>(list: &[u8], test: F) -> bool
     false
 }
 
-// Passes a list, for a sheet with so many consumers, to which none of the numbers 13 and 14 applies.
-#[tactic(auto, unfolding(rules::specs::Transfers::list_tests, rules::specs::Refusals::first_of, rules::specs::Refusals::one_of))]
+// Passes a list, for a sheet with so many consumers, to which none of the numbers 13 and 14 applies. The
+// entries of such a list are read once; which number applies is asked only where one does.
+#[tactic(auto, using(crate::proofs::Tried::none_wrong), unfolding(rules::specs::Transfers::list_tests, rules::specs::Refusals::first_of, rules::specs::Refusals::one_of))]
 pub fn try_list(list: &[u8], consumers: u8) -> Result<(), Refusal>
     ensures { number_or_none result ≡ first_of (list_tests consumers list.now) }
 {
+    if !bad_front(list) && !some_entry(list, |t| filed_late(t) || bad_entry(consumers, t)) {
+        return Ok(());
+    }
     if bad_front(list) || some_entry(list, |t| bad_entry(consumers, t)) {
         return Err(Refusal::BadList);
     }

@@ -3,8 +3,12 @@ use Rattle.rules.specs.Fields.{big_endian}
 use Rattle.rules.specs.Refusals.{too_high}
 use Rattle.laws.proofs.Range.{any_start, any_fold, any_done}
 use Rattle.refusals_powers.specs.Powers.{high_powers}
+use Rattle.refusals_powers.proofs.Low.{low_high}
 use Rattle.refusals_powers.proofs.Powers.{high_max}
 use Rattle.refusals_powers.proofs.high_powers.Goals as goal
+
+pub returns-then-all_low : goal.returns-then-all_low
+returns-then-all_low c = sym (low_high _ (sym c.all_low.ensures ∙ c.if-all_low.true))
 
 pub loop-i-init : goal.loop-i-init
 unfolding too_high

@@ -14,7 +14,7 @@ use Rattle.result.proofs.settle_month.Goals as goal
 
 -- The records have a number.
 pub returns-in-Err-clause-number : goal.returns-in-Err-clause-number
-returns-in-Err-clause-number c = c.with_hours.ensures ∙ answer _ _ _ c.in-Err.ensures.number
+returns-in-Err-clause-number c = c.try_hours.ensures ∙ answer _ _ _ c.in-Err.ensures.number
 
 pub returns-in-Err-clause-buffer : goal.returns-in-Err-clause-buffer
 returns-in-Err-clause-buffer c = kept_by_records _ _ _ c.in-Err.ensures.number (from_one c.in-Err.refusal)

@@ -1,4 +1,5 @@
-use Rattle.std.proofs.Common.{sym, ◌∙◌, zero-le, arith}
+use Rattle.std.proofs.Common.{◌≡◌, ◌+◌, sym, ◌∙◌, zero-le, arith}
+use Rattle.units.proofs.Adding.{added_exact}
 use Rattle.laws.proofs.Range.{sum_none}
 use Rattle.hours.proofs.Evenings.{none_beside, more_beside}
 use Rattle.hours.proofs.Evenings.{evening_counted, hours_counted, evening_passed, hours_passed}
@@ -14,10 +15,13 @@ loop-t-init g c =
     (λ series is. none_beside _ _ (before.0 series is).0, omega (arith, before.1))
 
 pub loop-t-preserved : goal.loop-t-preserved
-loop-t-preserved g c = (
-  λ series is. more_beside _ _ _ (c.loop-t.invariant.0 series is) (is _ _ (omega arith) c.power_of.ensures),
-  omega (arith, c.loop-t.invariant.1),
-)
+loop-t-preserved g c =
+    let before = c.loop-t.invariant in
+    let summed : c.plus-counted.result.0 ≡ c.loop-t.counted.0 + c.power_of-power.result =
+    c.plus-counted.ensures ∙ rw c.stated.ensures.0 (added_exact _ _ (omega (arith, before.1, c.loop-day.invariant.2))) in (
+      λ series is. summed ∙ more_beside _ _ _ (before.0 series is) (is _ _ (omega arith) c.power_of-power.ensures),
+      omega (arith, summed, before.1),
+    )
 
 pub loop-day-preserved : goal.loop-day-preserved
 loop-day-preserved g c =

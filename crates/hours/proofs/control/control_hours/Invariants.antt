@@ -8,16 +8,16 @@ abbrev pub invariant-loop-day : goal.invariant-loop-day
 invariant-loop-day g l =
     ((series : ℕ → ℕ)
     → ((i : ℕ) → (v : ℕ) → i < 24 * l.days → g.F.Fn.post l.power_of (i, tt) v → v ≡ series i)
-    → (l.counted ≡ (control_of series l.control.on l.day).counted.0)
+    → (l.counted.0 ≡ (control_of series l.control.on l.day).counted.0)
     × (l.count ≡ (control_of series l.control.on l.day).count))
-    × (l.counted ≤ most_word * l.count)
+    × (l.counted.0 ≤ most_word * l.count)
     × (l.count ≤ 6 * l.day)
 
 abbrev pub invariant-loop-t : goal.invariant-loop-t
 invariant-loop-t g l =
     ((series : ℕ → ℕ)
     → ((i : ℕ) → (v : ℕ) → i < 24 * l.days → g.F.Fn.post l.power_of (i, tt) v → v ≡ series i)
-    → l.counted
+    → l.counted.0
     ≡ (control_of series l.control.on l.day).counted.0
     + sum (λ t. series (24 * l.day + (17 + t))) l.t)
-    × (l.counted ≤ most_word * (l.count + l.t))
+    × (l.counted.0 ≤ most_word * (l.count + l.t))
